@@ -1,0 +1,4 @@
+pub mod Ints
+pub mod Host
+pub mod Cells
+pub mod Machine

@@ -1,0 +1,2 @@
+// The machine that runs the code of rules.
+pub mod instruction;

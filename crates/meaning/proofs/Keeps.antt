@@ -1,0 +1,154 @@
+-- No instruction alters the length of memory.
+use Prim.Native.Nat.{ℕ, zero, suc, _+_, _-_, _^_, _≤_, min}
+use mathlib.Core.Path.{_≡_, refl, ap, _∙_}
+use mathlib.Core.List.{List, [], _∷_, _++_}
+use mathlib.Core.Bool.{Bool, true, false, cond, not}
+use native.Mathlib.Omega.{arith}
+use lib.IntN.{ℤ, pos, negsuc, _+ℤ_, _*ℤ_}
+use lib.ListN.{length, getD, set, take, drop, replicate, length-set, length-take, length-drop, length-replicate}
+use lib.Dec.{T, leb, ltb, leb→le}
+use Rattle.std.specs.declared.option.Option.{Option}
+use Rattle.std.specs.declared.option.Option.the-variants.{Some, None}
+use Rattle.machine.specs.declared.instruction.Instruction.{Instruction}
+use Rattle.machine.specs.declared.instruction.Instruction.the-variants.{Lit, Var, Off, Ld, St, Stk, Copy, Index, Add, Sub, Mul, Div, Mod, Neg, Not, And, Or, Lt, Le, Gt, Ge, Eq, Ne, Jmp, Jf, Geti, Getb, Puti, Putb, Nl, Zero, Frame, Enter, Leave, Dup, Pop, Stop}
+use Rattle.meaning.specs.Rule as Rule
+use Rattle.machine.specs.Ints.{Answer, gives, faults, unary-of, binary-of, is-zero}
+use Rattle.machine.specs.Host.{Host, Item, Event, wrote-int, wrote-bool, wrote-line}
+use Rattle.meaning.specs.Evaluation.{zeroed, moved, as-int, as-bool, in-range}
+use Rattle.machine.specs.Machine.{Machine, Effect, goes, stops, fails, on, jump, one, two, room, made, within, settled, heard, get, say, base, link, unary, binary, effect, Standing, going, finished, failed, Run, fetched, attempted, after, one-more, run}
+use Rattle.meaning.specs.Laws.{Memory-kept}
+use Rattle.meaning.proofs.Cells.{patched-length}
+
+abbrev Keeps : ℕ → Effect → Type 0
+Keeps l (goes m) = length (m .cells) ≡ l
+Keeps l (stops m) = length (m .cells) ≡ l
+Keeps l (fails f) = Unit {0}
+
+zeroed-length : (cs : List ℤ) (a n : ℕ) → a + n ≤ length cs → length (zeroed cs a n) ≡ length cs
+zeroed-length cs a n h = patched-length cs a (replicate n (pos 0)) n (length-replicate n (pos 0)) h
+
+moved-length : (cs : List ℤ) (a b n : ℕ) → a + n ≤ length cs → b + n ≤ length cs → length (moved cs a b n) ≡ length cs
+moved-length cs a b n h k = patched-length cs a (take n (drop b cs)) n (length-take n (drop b cs) ∙ ap (λ (x : ℕ). min n x) (length-drop b cs) ∙ least) h
+  where
+    least : min n (length cs - b) ≡ n
+    least = omega arith
+
+module _ (l : ℕ) where
+  either : (b : Bool) (x y : Effect) → (T b → Keeps l x) → Keeps l y → Keeps l (cond b x y)
+  either true x y p q = p tt
+  either false x y p q = q
+
+  one-k : (ops : List ℤ) (k : ℤ → List ℤ → Effect) → ((x : ℤ) (xs : List ℤ) → Keeps l (k x xs)) → Keeps l (one ops k)
+  one-k [] k p = tt
+  one-k (x ∷ xs) k p = p x xs
+
+  two-k : (ops : List ℤ) (k : ℤ → ℤ → List ℤ → Effect) → ((x y : ℤ) (xs : List ℤ) → Keeps l (k x y xs)) → Keeps l (two ops k)
+  two-k [] k p = tt
+  two-k (x ∷ []) k p = tt
+  two-k (x ∷ y ∷ xs) k p = p y x xs
+
+  room-k : (ops : List ℤ) (e : Effect) → Keeps l e → Keeps l (room ops e)
+  room-k ops e p = either (ltb (length ops) 128) e (fails 42) (λ _. p) tt
+
+  made-k : (z : ℤ) (k : ℕ → Effect) → ((a : ℕ) → Keeps l (k a)) → Keeps l (made z k)
+  made-k (pos a) k p = either (ltb a (2 ^ 31)) (k a) (fails 43) (λ _. p a) tt
+  made-k (negsuc a) k p = tt
+
+  within-k : (z : ℤ) (n : ℕ) (cs : List ℤ) (k : ℕ → Effect) → ((a : ℕ) → a + n ≤ length cs → Keeps l (k a)) → Keeps l (within z n cs k)
+  within-k z zero cs k p = p 0 (omega arith)
+  within-k (pos a) (suc n) cs k p = either (leb (a + suc n) (length cs)) (k a) (fails 43) (λ t. p a (leb→le (a + suc n) (length cs) t)) tt
+  within-k (negsuc a) (suc n) cs k p = tt
+
+  settled-k : (a : Answer) (k : ℤ → Effect) → ((z : ℤ) → Keeps l (k z)) → Keeps l (settled a k)
+  settled-k (gives z) k p = p z
+  settled-k (faults f) k p = tt
+
+  heard-k : (is : List Item) (f : Item → Answer) (h : Host) (k : ℤ → Host → Effect) → ((z : ℤ) (g : Host) → Keeps l (k z g)) → Keeps l (heard is f h k)
+  heard-k [] f h k p = tt
+  heard-k (i ∷ is) f h k p = settled-k (f i) _ (λ z. p z _)
+
+  link-k : (z : ℤ) (k : ℕ → Effect) → ((a : ℕ) → Keeps l (k a)) → Keeps l (link z k)
+  link-k (pos a) k p = p a
+  link-k (negsuc a) k p = tt
+
+module _ (m : Machine) where
+  abbrev len : ℕ
+  len = length (m .cells)
+
+  unary-k : (o : Rule.Unary) → Keeps len (unary o m)
+  unary-k o = one-k len (m .operands) _ (λ x ops. settled-k len (unary-of o x) _ (λ z. refl))
+
+  binary-k : (o : Rule.Binary) → Keeps len (binary o m)
+  binary-k o = two-k len (m .operands) _ (λ x y ops. settled-k len (binary-of o x y) _ (λ z. refl))
+
+  get-k : (f : Item → Answer) → Keeps len (get f m)
+  get-k f = one-k len (m .operands) _ (λ a ops. heard-k len (m .host .items) f (m .host) _ (λ z h. within-k len a 1 (m .cells) _ (λ b q. length-set (m .cells) b z)))
+
+  say-k : (e : Event) (ops : List ℤ) → Keeps len (say e m ops)
+  say-k e ops = either len (leb (length (m .host .marks ++ m .host .renders e)) (m .host .room)) _ (fails 26) (λ _. refl) tt
+
+  effect-k : (i : Instruction) → Keeps len (effect i m)
+  effect-k (Lit v) = room-k len (m .operands) _ refl
+  effect-k (Var l k) = room-k len (m .operands) _ (made-k len (pos (base m l + k)) (λ a. goes (on m (pos a ∷ m .operands))) (λ a. refl))
+  effect-k (Off n) = one-k len (m .operands) _ (λ a ops. made-k len (a +ℤ pos n) _ (λ b. refl))
+  effect-k Ld = one-k len (m .operands) _ (λ a ops. within-k len a 1 (m .cells) _ (λ b q. refl))
+  effect-k St = two-k len (m .operands) _ (λ a z ops. within-k len a 1 (m .cells) _ (λ b q. length-set (m .cells) b z))
+  effect-k Stk = two-k len (m .operands) _ (λ a z ops. within-k len a 1 (m .cells) _ (λ b q. length-set (m .cells) b z))
+  effect-k (Copy n) = two-k len (m .operands) _ (λ a b ops. within-k len b n (m .cells) _ (λ from p. within-k len a n (m .cells) _ (λ to q. moved-length (m .cells) to from n q p)))
+  effect-k (Index n s) = two-k len (m .operands) _ (λ a i ops. either len (in-range i n) _ (fails 21) (λ _. made-k len (a +ℤ i *ℤ pos s) _ (λ b. refl)) tt)
+  effect-k Add = binary-k Rule.add
+  effect-k Sub = binary-k Rule.sub
+  effect-k Mul = binary-k Rule.mul
+  effect-k Div = binary-k Rule.quot
+  effect-k Mod = binary-k Rule.rem
+  effect-k Neg = unary-k Rule.neg
+  effect-k Not = unary-k Rule.not
+  effect-k And = binary-k Rule.and
+  effect-k Or = binary-k Rule.or
+  effect-k Lt = binary-k Rule.lt
+  effect-k Le = binary-k Rule.le
+  effect-k Gt = binary-k Rule.gt
+  effect-k Ge = binary-k Rule.ge
+  effect-k Eq = binary-k Rule.eq
+  effect-k Ne = binary-k Rule.ne
+  effect-k (Jmp t) = refl
+  effect-k (Jf t) = one-k len (m .operands) _ (λ x ops. jumped (is-zero x) ops)
+    where
+      jumped : (b : Bool) (ops : List ℤ) → length ((cond b (jump m ops t) (on m ops)) .cells) ≡ len
+      jumped true ops = refl
+      jumped false ops = refl
+  effect-k Geti = get-k as-int
+  effect-k Getb = get-k as-bool
+  effect-k Puti = one-k len (m .operands) _ (λ x ops. say-k (wrote-int x) ops)
+  effect-k Putb = one-k len (m .operands) _ (λ x ops. say-k (wrote-bool (not (is-zero x))) ops)
+  effect-k Nl = say-k wrote-line (m .operands)
+  effect-k (Zero l k n) = within-k len (pos (base m l + k)) n (m .cells) _ (λ a q. zeroed-length (m .cells) a n q)
+  effect-k (Frame n) = room-k len (m .operands) _ (either len (leb (m .top + n) (length (m .cells))) _ (fails 27) (λ t. zeroed-length (m .cells) (m .top) n (leb→le (m .top + n) (length (m .cells)) t)) tt)
+  effect-k (Enter l t) = one-k len (m .operands) _ (λ a ops. within-k len a 2 (m .cells) _ (λ b q. length-set (set (m .cells) b (pos (suc (m .next)))) (suc b) (pos (base m l)) ∙ length-set (m .cells) b (pos (suc (m .next)))))
+  effect-k (Leave l) =
+      within-k len (pos (base m l)) 2 (m .cells) (λ b. link (getD (m .cells) b (pos 0)) (λ t. link (getD (m .cells) (suc b) (pos 0)) (λ old. back t old)))
+      (λ b q. link-k len (getD (m .cells) b (pos 0)) (λ t. link (getD (m .cells) (suc b) (pos 0)) (λ old. back t old)) (λ t. link-k len (getD (m .cells) (suc b) (pos 0)) (λ old. back t old) (λ old. refl)))
+    where
+      back : ℕ → ℕ → Effect
+      back t old = goes (record { operands = m .operands; bases = set (m .bases) l old; next = t; top = base m l; cells = m .cells; host = m .host })
+  effect-k Dup = one-k len (m .operands) _ (λ x ops. room-k len (m .operands) _ refl)
+  effect-k Pop = one-k len (m .operands) _ (λ x ops. refl)
+  effect-k Stop = refl
+
+  attempted-k : (o : Option Instruction) → Keeps len (attempted o m)
+  attempted-k None = tt
+  attempted-k (Some i) = effect-k i
+
+  after-k : (e : Effect) (c : ℕ) → Keeps len e → length (after e c m .machine .cells) ≡ len
+  after-k (goes m′) c p = p
+  after-k (stops m′) c p = p
+  after-k (fails f) c p = refl
+
+more-k : (c : List Instruction) (s : Standing) (r : Run) → length (one-more c s r .machine .cells) ≡ length (r .machine .cells)
+more-k c going r = after-k (r .machine) (attempted (fetched c (r .machine .next)) (r .machine)) (r .count) (attempted-k (r .machine) (fetched c (r .machine .next)))
+more-k c finished r = refl
+more-k c (failed f) r = refl
+
+pub memory-kept : Memory-kept
+memory-kept c zero r = refl
+memory-kept c (suc n) r = more-k c (run c n r .standing) (run c n r) ∙ memory-kept c n r

@@ -1,0 +1,5 @@
+use Rattle.meaning.proofs.Meant.{meaning-agrees}
+use Rattle.meaning.proofs.meaning_stands.Needs as need
+
+pub returns : need.returns
+returns c = meaning-agrees

@@ -1,0 +1,5 @@
+use Rattle.meaning.proofs.Meant.{objects-agree}
+use Rattle.meaning.proofs.objects_stand.Needs as need
+
+pub returns : need.returns
+returns c = objects-agree

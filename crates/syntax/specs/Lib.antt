@@ -1,0 +1,6 @@
+pub mod Shape
+pub mod Grammar
+pub mod Parse
+pub mod Law
+pub mod View
+pub mod Examples

@@ -1,0 +1,13 @@
+// The grammar of the language, and its law.
+ghost use Rattle.syntax.specs.Law.{Accepts, Refuses, Paid};
+
+// The parser of the specification decides the grammar: it accepts with a tree just where the
+// grammar derives it, and refuses just at the first token after which nothing legal continues. The
+// tree has at most one node for each token.
+pub fn parse_is_the_grammar() -> u8
+    ensures accepts { λ _. ⌜ Accepts ⌝ }
+    ensures refuses { λ _. ⌜ Refuses ⌝ }
+    ensures paid { λ _. ⌜ Paid ⌝ }
+{
+    0
+}

@@ -1,0 +1,9 @@
+pub mod Operators
+pub mod Tree
+pub mod Token
+pub mod Spelling
+pub mod Refusals
+pub mod Automaton
+pub mod Scan
+pub mod Law
+pub mod Examples
