@@ -1,49 +1,47 @@
--- Worked examples: sources, and what is scanned from them.
-use mathlib.Core.Path.{_≡_, refl}
-use mathlib.Core.List.{List, [], _∷_}
+-- Worked examples: short sources, and what is scanned from them.
+use mathlib.Core.Path.{_≡_}
+use mathlib.Core.List.{List, [], _∷_, _++_}
 use Prim.Native.Nat.{ℕ}
+use lib.Chars.{codes}
 use lib.IntN.{ℤ, pos, negsuc}
 use Rattle.tiny.specs.declared.faults.ScanCause.the-variants.{NoToken, TooLarge}
 use Rattle.tiny.specs.declared.tokens.Kind.{Kind}
-use Rattle.tiny.specs.declared.tokens.Kind.the-variants.{Ampersand, Brace, BraceEnd, DoubleAmpersand, IfWord, IntWord, LessEqual, Literal, Name, WriteWord}
+use Rattle.tiny.specs.declared.tokens.Kind.the-variants.{Ampersand, Brace, BraceEnd, Caret, DoubleAmpersand, IfWord, IntWord, Less, LessEqual, Becomes, Literal, Name, WriteWord, StringWord}
 use Rattle.tiny.specs.Token.{Token}
-use Rattle.tiny.specs.Scan.{scan, scan-from}
+use Rattle.tiny.specs.Scan.{scan}
 use Rattle.tiny.specs.Scan.Scanned.{tokens, refused}
 
 abbrev tok : Kind → ℕ → List ℕ → ℤ → Token
 tok k p x v = record { kind = k; place = p; text = x; value = v }
 
--- {}
-example-0 : scan (123 ∷ 125 ∷ []) ≡ tokens (tok Brace 0 (123 ∷ []) (pos 0) ∷ tok BraceEnd 1 (125 ∷ []) (pos 0) ∷ [])
-unfolding scan scan-from
-example-0 = refl
+-- a token that is no literal
+abbrev plain : Kind → ℕ → List ℕ → Token
+plain k p x = tok k p x (pos 0)
 
--- {int x && write x-1}
-example-1 : scan (123 ∷ 105 ∷ 110 ∷ 116 ∷ 32 ∷ 120 ∷ 32 ∷ 38 ∷ 38 ∷ 32 ∷ 119 ∷ 114 ∷ 105 ∷ 116 ∷ 101 ∷ 32 ∷ 120 ∷ 45 ∷ 49 ∷ 125 ∷ []) ≡ tokens (tok Brace 0 (123 ∷ []) (pos 0) ∷ tok IntWord 1 (105 ∷ 110 ∷ 116 ∷ []) (pos 0) ∷ tok Name 5 (120 ∷ []) (pos 0) ∷ tok DoubleAmpersand 7 (38 ∷ 38 ∷ []) (pos 0) ∷ tok WriteWord 10 (119 ∷ 114 ∷ 105 ∷ 116 ∷ 101 ∷ []) (pos 0) ∷ tok Name 16 (120 ∷ []) (pos 0) ∷ tok Literal 17 (45 ∷ 49 ∷ []) (negsuc 0) ∷ tok BraceEnd 19 (125 ∷ []) (pos 0) ∷ [])
-unfolding scan scan-from
-example-1 = refl
-
--- IF a<=-0 ## c\n&&&_1
-example-2 : scan (73 ∷ 70 ∷ 32 ∷ 97 ∷ 60 ∷ 61 ∷ 45 ∷ 48 ∷ 32 ∷ 35 ∷ 35 ∷ 32 ∷ 99 ∷ 10 ∷ 38 ∷ 38 ∷ 38 ∷ 95 ∷ 49 ∷ []) ≡ tokens (tok IfWord 0 (73 ∷ 70 ∷ []) (pos 0) ∷ tok Name 3 (97 ∷ []) (pos 0) ∷ tok LessEqual 4 (60 ∷ 61 ∷ []) (pos 0) ∷ tok Literal 6 (45 ∷ 48 ∷ []) (pos 0) ∷ tok DoubleAmpersand 14 (38 ∷ 38 ∷ []) (pos 0) ∷ tok Ampersand 16 (38 ∷ []) (pos 0) ∷ tok Name 17 (95 ∷ 49 ∷ []) (pos 0) ∷ [])
-unfolding scan scan-from
-example-2 = refl
-
---  2147483648
-example-3 : scan (32 ∷ 50 ∷ 49 ∷ 52 ∷ 55 ∷ 52 ∷ 56 ∷ 51 ∷ 54 ∷ 52 ∷ 56 ∷ []) ≡ refused TooLarge 1
-unfolding scan scan-from
-example-3 = refl
-
--- +2147483647 -2147483648 -2147483649
-example-4 : scan (43 ∷ 50 ∷ 49 ∷ 52 ∷ 55 ∷ 52 ∷ 56 ∷ 51 ∷ 54 ∷ 52 ∷ 55 ∷ 32 ∷ 45 ∷ 50 ∷ 49 ∷ 52 ∷ 55 ∷ 52 ∷ 56 ∷ 51 ∷ 54 ∷ 52 ∷ 56 ∷ 32 ∷ 45 ∷ 50 ∷ 49 ∷ 52 ∷ 55 ∷ 52 ∷ 56 ∷ 51 ∷ 54 ∷ 52 ∷ 57 ∷ []) ≡ refused TooLarge 24
-unfolding scan scan-from
-example-4 = refl
-
--- x !\n
-example-5 : scan (120 ∷ 32 ∷ 33 ∷ 10 ∷ []) ≡ refused NoToken 2
-unfolding scan scan-from
-example-5 = refl
-
--- 1#
-example-6 : scan (49 ∷ 35 ∷ []) ≡ refused NoToken 1
-unfolding scan scan-from
-example-6 = refl
+pub record Worked-scans : Type 0 where
+  pub nothing : scan [] ≡ tokens []
+  pub block : scan (codes "{}") ≡ tokens (plain Brace 0 (codes "{") ∷ plain BraceEnd 1 (codes "}") ∷ [])
+  -- the sign belongs to the literal
+  pub sign :
+      scan (codes "{int x && write x-1}")
+      ≡ tokens (plain Brace 0 (codes "{") ∷ plain IntWord 1 (codes "int") ∷ plain Name 5 (codes "x") ∷ plain DoubleAmpersand 7 (codes "&&")
+      ∷ plain WriteWord 10 (codes "write") ∷ plain Name 16 (codes "x") ∷ tok Literal 17 (codes "-1") (negsuc 0) ∷ plain BraceEnd 19 (codes "}") ∷ [])
+  -- reserved words in any letter case, a comment, and the longest token
+  pub longest :
+      scan (codes "IF a<=-0 ## c" ++ 10 ∷ codes "&&&_1")
+      ≡ tokens (plain IfWord 0 (codes "IF") ∷ plain Name 3 (codes "a") ∷ plain LessEqual 4 (codes "<=") ∷ tok Literal 6 (codes "-0") (pos 0)
+      ∷ plain DoubleAmpersand 14 (codes "&&") ∷ plain Ampersand 16 (codes "&") ∷ plain Name 17 (codes "_1") ∷ [])
+  -- a blank parts two symbols
+  pub parted : scan (codes "< =") ≡ tokens (plain Less 0 (codes "<") ∷ plain Becomes 2 (codes "=") ∷ [])
+  -- no digit goes in front of another as 0
+  pub noughts : scan (codes "007") ≡ tokens (tok Literal 0 (codes "0") (pos 0) ∷ tok Literal 1 (codes "0") (pos 0) ∷ tok Literal 2 (codes "7") (pos 7) ∷ [])
+  -- tokens of no rule are tokens
+  pub unused : scan (codes "^String") ≡ tokens (plain Caret 0 (codes "^") ∷ plain StringWord 1 (codes "String") ∷ [])
+  pub last-comment : scan (codes "x##") ≡ tokens (plain Name 0 (codes "x") ∷ [])
+  pub ints :
+      scan (codes "+2147483647 -2147483648") ≡ tokens (tok Literal 0 (codes "+2147483647") (pos 2147483647) ∷ tok Literal 12 (codes "-2147483648") (negsuc 2147483647) ∷ [])
+  pub too-large : scan (codes " 2147483648") ≡ refused TooLarge 1
+  pub too-small : scan (codes "0 -2147483649") ≡ refused TooLarge 2
+  pub lone-bang : scan (codes "x ! y") ≡ refused NoToken 2
+  pub lone-hash : scan (codes "1# 2") ≡ refused NoToken 1
+  pub over-127 : scan (120 ∷ 195 ∷ 177 ∷ []) ≡ refused NoToken 1

@@ -5,6 +5,9 @@ use mathlib.Core.Bool.{Bool}
 use lib.IntN.{ℤ}
 use lib.Dec.{eqb}
 use Rattle.tiny.specs.declared.tokens.Kind.{Kind}
+use Rattle.tiny.specs.declared.tokens.Class.{Class}
+use Rattle.tiny.specs.declared.tokens.Class.the-variants as Class
+use Rattle.tiny.specs.declared.tokens.Class.the-variants.{Word, Unused, Symbol}
 use Rattle.tiny.specs.declared.tokens.Kind.the-variants.{Name, Literal, TrueWord, FalseWord, IntWord, BoolWord, StructWord, TypeWord, ProcWord, IfWord, ElseWord, WhileWord, ReadWord, WriteWord, NlWord, CallWord, And, Or, Not, RealWord, StringWord, NullWord, NewWord, DeleteWord, Plus, Minus, Times, Over, Percent, Less, Greater, LessEqual, GreaterEqual, Equal, NotEqual, Open, Close, Semicolon, Becomes, Index, IndexEnd, Dot, Caret, Comma, Brace, BraceEnd, Ampersand, DoubleAmpersand, At}
 
 pub record Token : Type 0 where
@@ -65,6 +68,60 @@ code k = elim k [
   | Ampersand ↦ 46
   | DoubleAmpersand ↦ 47
   | At ↦ 48
+]
+
+-- words, words of no rule, and symbols
+abbrev pub class : Kind → Class
+class k = elim k [
+  | Name ↦ Class.Name
+  | Literal ↦ Class.Literal
+  | TrueWord ↦ Word
+  | FalseWord ↦ Word
+  | IntWord ↦ Word
+  | BoolWord ↦ Word
+  | StructWord ↦ Word
+  | TypeWord ↦ Word
+  | ProcWord ↦ Word
+  | IfWord ↦ Word
+  | ElseWord ↦ Word
+  | WhileWord ↦ Word
+  | ReadWord ↦ Word
+  | WriteWord ↦ Word
+  | NlWord ↦ Word
+  | CallWord ↦ Word
+  | And ↦ Word
+  | Or ↦ Word
+  | Not ↦ Word
+  | RealWord ↦ Unused
+  | StringWord ↦ Unused
+  | NullWord ↦ Unused
+  | NewWord ↦ Unused
+  | DeleteWord ↦ Unused
+  | Plus ↦ Symbol
+  | Minus ↦ Symbol
+  | Times ↦ Symbol
+  | Over ↦ Symbol
+  | Percent ↦ Symbol
+  | Less ↦ Symbol
+  | Greater ↦ Symbol
+  | LessEqual ↦ Symbol
+  | GreaterEqual ↦ Symbol
+  | Equal ↦ Symbol
+  | NotEqual ↦ Symbol
+  | Open ↦ Symbol
+  | Close ↦ Symbol
+  | Semicolon ↦ Symbol
+  | Becomes ↦ Symbol
+  | Index ↦ Symbol
+  | IndexEnd ↦ Symbol
+  | Dot ↦ Symbol
+  | Caret ↦ Symbol
+  | Comma ↦ Symbol
+  | Brace ↦ Symbol
+  | BraceEnd ↦ Symbol
+  | Ampersand ↦ Symbol
+  | DoubleAmpersand ↦ Symbol
+  | At ↦ Symbol
 ]
 
 abbrev pub is : Kind → Kind → Bool

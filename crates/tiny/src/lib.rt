@@ -1,4 +1,5 @@
 // The language Tiny: its tokens, the scanner, and the trees of rules.
+ghost use Rattle.tiny.specs.Examples.{Worked-scans};
 ghost use Rattle.tiny.specs.Law.{Scan-is, One-kind};
 
 pub mod faults;
@@ -14,6 +15,13 @@ pub mod tokens;
 pub fn the_scan_is_the_spelling() -> u8
     ensures scan { λ _. ⌜ Scan-is ⌝ }
     ensures kind { λ _. ⌜ One-kind ⌝ }
+{
+    0
+}
+
+// Short sources and their tokens or refusals.
+pub fn worked_scans_stand() -> u8
+    ensures { λ _. ⌜ Worked-scans ⌝ }
 {
     0
 }

@@ -24,7 +24,7 @@ pub enum State {
 
 impl State {
     // The token that a text is which ends here.
-    pub fn kind(self, text: &[u8]) -> Option<Kind>
+    pub(crate) fn kind(self, text: &[u8]) -> Option<Kind>
         ensures { λ r. ⌜ r ≡ kind self (now (text .entry)) ⌝ }
     {
         match self {
@@ -133,7 +133,7 @@ fn mark(b: u8) -> Option<State>
 }
 
 // How many bytes at the front go into one token, and the state behind them.
-pub fn munch(bytes: &[u8]) -> (usize, State)
+pub(crate) fn munch(bytes: &[u8]) -> (usize, State)
     ensures { λ r. ⌜ r ≡ reach State.Start (now (bytes .entry)) ⌝ }
 {
     let mut state = State::Start;

@@ -6,7 +6,7 @@ ghost use Rattle.tiny.specs.Spelling.{letter, lower, words, later-words, numbe
 ghost use Rattle.tiny.specs.Automaton;
 use crate::tokens::Kind;
 
-pub fn is_letter(b: u8) -> bool
+pub(crate) fn is_letter(b: u8) -> bool
     ensures { λ r. ⌜ r ≡ letter b ⌝ }
 {
     b'a' <= b && b <= b'z' || b'A' <= b && b <= b'Z' || b == b'_'
@@ -37,7 +37,7 @@ fn same(text: &[u8], word: &[u8]) -> bool
 }
 
 // The kind of a word: a reserved word or a name.
-pub fn word_kind(text: &[u8]) -> Kind
+pub(crate) fn word_kind(text: &[u8]) -> Kind
     ensures { λ r. ⌜ r ≡ Automaton.word-kind words (now (text .entry)) ⌝ }
 {
     if same(text, b"int") {
@@ -97,7 +97,7 @@ fn later_word_kind(text: &[u8]) -> Kind
     }
 }
 
-pub fn is_blank(b: u8) -> bool
+pub(crate) fn is_blank(b: u8) -> bool
     ensures { λ r. ⌜ r ≡ blank b ⌝ }
 {
     b == b' ' || b == 8 || b == b'\r' || b == b'\t' || b == b'\n'
@@ -160,7 +160,7 @@ pub fn literal(text: &[u8]) -> Option<i32>
 }
 
 // The value of a token; of what is no literal it is 0.
-pub fn meaning(kind: Kind, text: &[u8]) -> Option<i32>
+pub(crate) fn meaning(kind: Kind, text: &[u8]) -> Option<i32>
     ensures { λ r. ⌜ r ≡ meaning kind (now (text .entry)) ⌝ }
 {
     if kind.is(Kind::Literal) {

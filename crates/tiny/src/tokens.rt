@@ -1,7 +1,7 @@
 // The kinds of tokens, and tokens as stretches of the source.
 use crate::placed::Placed;
 ghost use mathlib.Core.Path.{_≡_};
-ghost use Rattle.tiny.specs.Token.{code, is};
+ghost use Rattle.tiny.specs.Token.{code, is, class};
 
 #[derive(Clone, Copy)]
 pub enum Kind {
@@ -61,6 +61,18 @@ pub enum Kind {
     At,
 }
 
+// What tokens are apart from their kind.
+#[derive(Clone, Copy, PartialEq, Eq, Debug)]
+pub enum Class {
+    Name,
+    Literal,
+    // A reserved word.
+    Word,
+    // A reserved word that no rule of the language has a use for.
+    Unused,
+    Symbol,
+}
+
 impl Kind {
     // Kinds are told apart by their numbers.
     pub fn code(self) -> u8
@@ -73,6 +85,24 @@ impl Kind {
         ensures { λ r. ⌜ r ≡ is self other ⌝ }
     {
         self.code() == other.code()
+    }
+
+    // Kinds are numbered class by class.
+    pub fn class(self) -> Class
+        ensures { λ r. ⌜ r ≡ class self ⌝ }
+    {
+        let code = self.code();
+        if code == 0 {
+            Class::Name
+        } else if code == 1 {
+            Class::Literal
+        } else if code <= 18 {
+            Class::Word
+        } else if code <= 23 {
+            Class::Unused
+        } else {
+            Class::Symbol
+        }
     }
 }
 
