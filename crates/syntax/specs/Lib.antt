@@ -3,4 +3,5 @@ pub mod Grammar
 pub mod Parse
 pub mod Law
 pub mod View
+pub mod Source
 pub mod Examples

@@ -43,9 +43,23 @@ abbrev pub Listed : Table → List ℕ → Kind → Type 0
 Listed [] bs k = ⊥
 Listed (e ∷ es) bs k = ((bs ≡ e .0) × (k ≡ e .1)) ⊎ Listed es bs k
 
--- the reserved words, in small letters
-abbrev pub later-words : Table
-later-words =
+-- The reserved words, in small letters, in four lists that follow each other.
+abbrev pub action-words : Table
+action-words =
+    -- read
+    (114 ∷ 101 ∷ 97 ∷ 100 ∷ [], ReadWord) ∷
+    -- write
+    (119 ∷ 114 ∷ 105 ∷ 116 ∷ 101 ∷ [], WriteWord) ∷
+    -- nl
+    (110 ∷ 108 ∷ [], NlWord) ∷
+    -- type
+    (116 ∷ 121 ∷ 112 ∷ 101 ∷ [], TypeWord) ∷
+    -- call
+    (99 ∷ 97 ∷ 108 ∷ 108 ∷ [], CallWord) ∷
+    []
+
+abbrev pub control-words : Table
+control-words =
     -- proc
     (112 ∷ 114 ∷ 111 ∷ 99 ∷ [], ProcWord) ∷
     -- if
@@ -58,17 +72,23 @@ later-words =
     (110 ∷ 101 ∷ 119 ∷ [], NewWord) ∷
     -- delete
     (100 ∷ 101 ∷ 108 ∷ 101 ∷ 116 ∷ 101 ∷ [], DeleteWord) ∷
-    -- read
-    (114 ∷ 101 ∷ 97 ∷ 100 ∷ [], ReadWord) ∷
-    -- write
-    (119 ∷ 114 ∷ 105 ∷ 116 ∷ 101 ∷ [], WriteWord) ∷
-    -- nl
-    (110 ∷ 108 ∷ [], NlWord) ∷
-    -- type
-    (116 ∷ 121 ∷ 112 ∷ 101 ∷ [], TypeWord) ∷
-    -- call
-    (99 ∷ 97 ∷ 108 ∷ 108 ∷ [], CallWord) ∷
-    []
+    action-words
+
+abbrev pub operator-words : Table
+operator-words =
+    -- and
+    (97 ∷ 110 ∷ 100 ∷ [], And) ∷
+    -- or
+    (111 ∷ 114 ∷ [], Or) ∷
+    -- not
+    (110 ∷ 111 ∷ 116 ∷ [], Not) ∷
+    -- null
+    (110 ∷ 117 ∷ 108 ∷ 108 ∷ [], NullWord) ∷
+    -- true
+    (116 ∷ 114 ∷ 117 ∷ 101 ∷ [], TrueWord) ∷
+    -- false
+    (102 ∷ 97 ∷ 108 ∷ 115 ∷ 101 ∷ [], FalseWord) ∷
+    control-words
 
 abbrev pub words : Table
 words =
@@ -82,19 +102,7 @@ words =
     (115 ∷ 116 ∷ 114 ∷ 105 ∷ 110 ∷ 103 ∷ [], StringWord) ∷
     -- struct
     (115 ∷ 116 ∷ 114 ∷ 117 ∷ 99 ∷ 116 ∷ [], StructWord) ∷
-    -- and
-    (97 ∷ 110 ∷ 100 ∷ [], And) ∷
-    -- or
-    (111 ∷ 114 ∷ [], Or) ∷
-    -- not
-    (110 ∷ 111 ∷ 116 ∷ [], Not) ∷
-    -- null
-    (110 ∷ 117 ∷ 108 ∷ 108 ∷ [], NullWord) ∷
-    -- true
-    (116 ∷ 114 ∷ 117 ∷ 101 ∷ [], TrueWord) ∷
-    -- false
-    (102 ∷ 97 ∷ 108 ∷ 115 ∷ 101 ∷ [], FalseWord) ∷
-    later-words
+    operator-words
 
 abbrev pub symbols : Table
 symbols =

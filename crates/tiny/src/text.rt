@@ -2,7 +2,7 @@
 ghost use mathlib.Core.Path.{_≡_};
 ghost use Prim.Native.Nat.{_+_, _-_, _*_, min};
 ghost use lib.IntN.{pos, negℤ};
-ghost use Rattle.tiny.specs.Spelling.{letter, lower, words, later-words, number, value, blank, ranged, meaning};
+ghost use Rattle.tiny.specs.Spelling.{letter, lower, words, operator-words, control-words, action-words, number, value, blank, ranged, meaning};
 ghost use Rattle.tiny.specs.Automaton;
 use crate::tokens::Kind;
 
@@ -50,7 +50,15 @@ pub(crate) fn word_kind(text: &[u8]) -> Kind
         Kind::StringWord
     } else if same(text, b"struct") {
         Kind::StructWord
-    } else if same(text, b"and") {
+    } else {
+        operator_word_kind(text)
+    }
+}
+
+fn operator_word_kind(text: &[u8]) -> Kind
+    ensures { λ r. ⌜ r ≡ Automaton.word-kind operator-words (now (text .entry)) ⌝ }
+{
+    if same(text, b"and") {
         Kind::And
     } else if same(text, b"or") {
         Kind::Or
@@ -63,12 +71,12 @@ pub(crate) fn word_kind(text: &[u8]) -> Kind
     } else if same(text, b"false") {
         Kind::FalseWord
     } else {
-        later_word_kind(text)
+        control_word_kind(text)
     }
 }
 
-fn later_word_kind(text: &[u8]) -> Kind
-    ensures { λ r. ⌜ r ≡ Automaton.word-kind later-words (now (text .entry)) ⌝ }
+fn control_word_kind(text: &[u8]) -> Kind
+    ensures { λ r. ⌜ r ≡ Automaton.word-kind control-words (now (text .entry)) ⌝ }
 {
     if same(text, b"proc") {
         Kind::ProcWord
@@ -82,7 +90,15 @@ fn later_word_kind(text: &[u8]) -> Kind
         Kind::NewWord
     } else if same(text, b"delete") {
         Kind::DeleteWord
-    } else if same(text, b"read") {
+    } else {
+        action_word_kind(text)
+    }
+}
+
+fn action_word_kind(text: &[u8]) -> Kind
+    ensures { λ r. ⌜ r ≡ Automaton.word-kind action-words (now (text .entry)) ⌝ }
+{
+    if same(text, b"read") {
         Kind::ReadWord
     } else if same(text, b"write") {
         Kind::WriteWord
