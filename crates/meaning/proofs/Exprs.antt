@@ -21,7 +21,7 @@ use Rattle.machine.specs.Machine as Machine
 use Rattle.meaning.specs.Code.{Scope, Entry, var, seen, place-length, value-length}
 use Rattle.meaning.specs.Code as Code
 use Rattle.meaning.specs.Sound.{Slot, holds, refers, slot, FitsPlace, FitsValue, place-need, value-need}
-use Rattle.meaning.specs.Agreement.{own-cells}
+use Rattle.meaning.specs.Sizes.{own-cells}
 use Rattle.meaning.proofs.Cells.{Private, Free, Mem, mem-set}
 use Rattle.meaning.proofs.Tracks.{Setting, tick, now, Ends, ends-bind, charged, fault-here}
 use Rattle.meaning.proofs.Tracks as Tracks

@@ -11,8 +11,9 @@ pub mod Sound
 pub mod Small
 pub mod Accepted
 pub mod Agreement
-pub mod MeaningAgreement
+pub mod Halves
 pub mod Laws
+pub mod MeaningLaws
 pub mod Lives
 pub mod Clauses
 pub mod Examples

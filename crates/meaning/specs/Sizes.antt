@@ -46,3 +46,7 @@ abbrev mutual
 -- the cells of a call: two for the way back, the formals, and the block
 abbrev pub frame-size : List Formal → Block → ℕ
 frame-size fs b = 2 + formals-size fs + block-extent b
+
+-- the cells of a block's own variables
+abbrev pub own-cells : Block → ℕ
+own-cells (Rule.block ds xs) = own-size ds
