@@ -16,6 +16,5 @@ pub mod Laws
 pub mod MeaningLaws
 pub mod Lives
 pub mod Clauses
-pub mod Examples
-pub mod MeaningExamples
-pub mod LifeExamples
+pub mod CaseTrees
+pub mod Cases

@@ -3,6 +3,7 @@
 
 ghost use Rattle.meaning.specs.Accepted.{Accepted-is-sound, Unbroken-is-accepted, Accepted-is-small};
 ghost use Rattle.meaning.specs.Agreement.{Meaning-agrees, Accepted-trees-agree, Charges-are-instructions};
+ghost use Rattle.meaning.specs.Cases.{WorkedCases};
 ghost use Rattle.meaning.specs.Halves.{Objects-agree, Addresses-agree};
 ghost use Rattle.meaning.specs.Laws.{RunLaws};
 ghost use Rattle.meaning.specs.MeaningLaws.{MeaningLaws};
@@ -89,6 +90,15 @@ pub fn lives_agree_stands() -> u8
     ensures loads { λ _. ⌜ Load-carries ⌝ }
     ensures opens { λ _. ⌜ Open-carries ⌝ }
     ensures steps { λ _. ⌜ Step-carries ⌝ }
+{
+    0
+}
+
+// Worked cases, on the checks, the meaning and the run alike: the recursive sum takes 113 instructions and prints 6 where
+// 19 cells suffice, and 18 give fault 27 at count 87; each operand is read before the next is evaluated; siblings share cells
+// that are new for each; a name declared twice and types that do not fit are refused at their places.
+pub fn worked_cases_stand() -> u8
+    ensures { λ _. ⌜ WorkedCases ⌝ }
 {
     0
 }
