@@ -14,7 +14,7 @@ use Rattle.meaning.specs.Rule.{Block}
 use Rattle.meaning.specs.Rule as Rule
 use Rattle.machine.specs.Host.{Host}
 use Rattle.meaning.specs.Evaluation.{World, Outcome, done, cut, fault, _>>=_, _>>_, charge, take-frame, ranked, evaluated, frame-size, block-extent, zeroed}
-use Rattle.machine.specs.Machine.{Machine, goes, fails, going, finished, failed, Run, fetched, after, effect, on, run, opened}
+use Rattle.machine.specs.Machine.{Machine, goes, fails, going, finished, failed, Run, fetched, after, effect, run, opened}
 use Rattle.meaning.specs.Code.{block, procs-block, block-length, program}
 use Rattle.meaning.specs.Sound.{Sound}
 use Rattle.meaning.specs.Halves.{Follows, Addresses-agree}

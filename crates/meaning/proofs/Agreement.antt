@@ -1,18 +1,17 @@
 -- The agreement of the meaning and the run, from its two halves and the laws of both.
 use Prim.Native.Nat.{ℕ, suc, _≤_}
-use mathlib.Core.Path.{_≡_, refl, sym, ap, _∙_, subst}
+use mathlib.Core.Path.{_≡_, sym, ap, _∙_, subst}
 use native.Mathlib.Omega.{arith}
 use lib.ListN.{length}
 use Rattle.machine.specs.Host.{Host}
-use Rattle.machine.specs.Machine.{Run, Standing, going, finished, failed, run, opened}
+use Rattle.machine.specs.Machine.{Run, going, finished, failed, run, opened}
 use Rattle.meaning.specs.Rule.{Block}
-use Rattle.meaning.specs.Objects.{State, Outcome, done, cut, fault}
+use Rattle.meaning.specs.Objects.{Outcome, done, cut, fault}
 use Rattle.meaning.specs.Meaning.{meaning}
 use Rattle.meaning.specs.MeaningLaws.{state, Is-cut, Foretells, Fault-known}
-use Rattle.meaning.specs.Evaluation.{World}
 use Rattle.meaning.specs.Evaluation as Evaluation
 use Rattle.meaning.specs.Code.{program}
-use Rattle.meaning.specs.Halves.{Like, Likewise, dones, cuts, faults, Same, Follows}
+use Rattle.meaning.specs.Halves.{Likewise, dones, cuts, faults, Follows}
 use Rattle.meaning.specs.Agreement.{Agrees, Meaning-agrees, Accepted-trees-agree, Charges-are-instructions}
 use Rattle.meaning.proofs.Agree.{addresses-agree}
 use Rattle.meaning.proofs.Meant.{objects-agree}

@@ -12,7 +12,7 @@ use Rattle.std.specs.declared.option.Option.the-variants.{Some}
 use Rattle.machine.specs.declared.instruction.Instruction.the-variants.{Frame, Enter, Leave}
 use Rattle.meaning.specs.Rule.{Argument, Formal, Action, Block}
 use Rattle.meaning.specs.Rule as Rule
-use Rattle.meaning.specs.Evaluation.{World, Outcome, done, cut, fault, _>>=_, _>>_, charge, return, take-frame, give-back, called, Env, zeroed, formal-size, formals-size, frame-size, action-extent}
+use Rattle.meaning.specs.Evaluation.{World, Outcome, done, cut, fault, _>>=_, _>>_, charge, take-frame, give-back, called, Env, zeroed, formal-size, formals-size, frame-size, action-extent}
 use Rattle.meaning.specs.Evaluation as Evaluation
 use Rattle.machine.specs.Machine.{Machine, Effect, goes, fails, fetched, after, effect, within, link}
 use Rattle.meaning.specs.Code.{Scope, arguments, formals, action, procs-action, action-length, block-length, arguments-length}

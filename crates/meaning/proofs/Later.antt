@@ -7,13 +7,12 @@ use native.Mathlib.Omega.{arith}
 use lib.IntN.{ℤ, pos}
 use lib.ListN.{length, take, replicate}
 use lib.Dec.{leb}
-use Rattle.std.proofs.shelf.Lists.{append-nil}
 use Rattle.machine.specs.Ints.{Answer, gives, faults, unary-of, binary-of, is-zero, in-range, nat}
 use Rattle.machine.specs.Host.{Item, Event, wrote-int, wrote-bool, wrote-line, as-int, as-bool}
 use Rattle.meaning.specs.Rule.{Place, Value, Argument, Formal, Action, Actions, Declarations, Block}
 use Rattle.meaning.specs.Rule as Rule
 use Rattle.meaning.specs.Sizes.{own-size, frame-size}
-use Rattle.meaning.specs.Objects.{State, Outcome, done, fault, _>>=_, _>>_, return, Object, Reference, beyond, Binding, names, procedure, Env, reference-of, with-objects, with-host, new, change, held, part, load, save, move, scoped, settle, indexed, taken, hear, said}
+use Rattle.meaning.specs.Objects.{State, Outcome, done, fault, _>>=_, _>>_, return, Object, Reference, beyond, Binding, names, procedure, Env, reference-of, with-objects, with-host, new, part, load, save, move, scoped, settle, indexed, taken, hear, said}
 use Rattle.meaning.specs.Meaning.{declare, charge, place, value, enter, leave, given, arguments, entry, called, found, act, act-all, block, ranked, program}
 use Rattle.meaning.proofs.Fair.{Fair, unary-fair, binary-fair, int-fair, bool-fair}
 use Rattle.meaning.proofs.Limits.{Side, early, late, Pair, Quiet, quiet, further-refl, bind, charged, charge-last, lower}

@@ -12,7 +12,6 @@ use Rattle.std.specs.declared.option.Option.the-variants.{Some, None}
 use Rattle.machine.specs.declared.instruction.Instruction.{Instruction}
 use Rattle.tiny.specs.Tree.{BlockTree}
 use Rattle.meaning.specs.Rule.{Block}
-use Rattle.machine.specs.Host.{Host}
 use Rattle.meaning.specs.Meaning.{meaning}
 use Rattle.machine.specs.Machine.{Standing, Run, going, finished, failed, run, opened}
 use Rattle.meaning.specs.Code.{program}

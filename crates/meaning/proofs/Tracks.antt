@@ -2,7 +2,7 @@
 use Prim.Native.Nat.{ℕ, zero, suc, _+_, _-_, _≤_, _<_}
 use mathlib.Core.Path.{_≡_, refl, sym, ap, _∙_, subst}
 use mathlib.Core.List.{List}
-use mathlib.Core.Bool.{Bool, true, false, cond, not}
+use mathlib.Core.Bool.{Bool, true, false, cond}
 use native.Mathlib.Omega.{arith}
 use native.Mathlib.Nat.{add-suc, add-zero}
 use lib.IntN.{ℤ}
@@ -12,7 +12,7 @@ use Rattle.std.specs.declared.option.Option.the-variants.{Some}
 use Rattle.machine.specs.declared.instruction.Instruction.{Instruction}
 use Rattle.meaning.specs.Rule.{Block}
 use Rattle.meaning.specs.Evaluation.{World, Outcome, done, cut, fault, _>>=_, _>>_, charge}
-use Rattle.machine.specs.Machine.{Machine, fails, Standing, going, failed, Run, fetched, attempted, after, one-more, effect, made}
+use Rattle.machine.specs.Machine.{Machine, fails, Standing, going, failed, Run, fetched, attempted, after, one-more, effect}
 use Rattle.meaning.specs.Halves.{Follows}
 use Rattle.meaning.specs.Sizes.{own-cells}
 use Rattle.meaning.proofs.Cells.{Private, Mem, mem-outer}

@@ -1,5 +1,5 @@
 -- The trees of the worked cases, each under its source.
-use mathlib.Core.List.{List, [], _∷_}
+use mathlib.Core.List.{[], _∷_}
 use mathlib.Core.Bool.{true, false}
 use lib.IntN.{pos}
 use Rattle.tiny.specs.Operators as Operators

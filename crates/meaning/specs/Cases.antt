@@ -13,13 +13,13 @@ use Rattle.machine.specs.Host.{Host, Event, wrote-int, wrote-bool, wrote-line}
 use Rattle.machine.specs.Machine.{Standing, going, finished, failed, Run, run, opened}
 use Rattle.meaning.specs.Rule.{Block}
 use Rattle.meaning.specs.Rule as Rule
-use Rattle.meaning.specs.Objects.{Outcome, Object}
+use Rattle.meaning.specs.Objects.{Outcome}
 use Rattle.meaning.specs.Meaning.{meaning, outermost}
 use Rattle.meaning.specs.MeaningLaws.{state}
 use Rattle.meaning.specs.Code.{program}
 use Rattle.meaning.specs.Stages.{Judged, refused, one-of, accepted, judged}
 use Rattle.meaning.specs.Agreement.{standing-of, outermost-cells}
-use Rattle.meaning.specs.Lives.{Source, Tie, Engine, runs, Life, rule-of-tree}
+use Rattle.meaning.specs.Lives.{Source, Tie, runs, Life, rule-of-tree}
 use Rattle.meaning.specs.CaseTrees.{empty, three, early, below, chain, inside, outside, siblings, sum, turns, copies, twice, tight, clash}
 
 abbrev Mark : Type 0

@@ -1,11 +1,11 @@
 -- Laws of the meaning, whatever the rule: sound or not.
-use Prim.Native.Nat.{ℕ, _≤_, _<_, _+_, min}
+use Prim.Native.Nat.{ℕ, _≤_, _+_, min}
 use mathlib.Core.Path.{_≡_}
 use mathlib.Core.List.{List, _++_}
 use Rattle.machine.specs.Host.{Host}
-use Rattle.meaning.specs.Rule.{Action, Block}
-use Rattle.meaning.specs.Objects.{State, Outcome, done, cut, fault, Env}
-use Rattle.meaning.specs.Meaning.{ranked, ranked-meaning, meaning}
+use Rattle.meaning.specs.Rule.{Block}
+use Rattle.meaning.specs.Objects.{State, Outcome, done, cut, fault}
+use Rattle.meaning.specs.Meaning.{ranked-meaning, meaning}
 
 -- the state in which an evaluation is done, cut off or at a fault
 abbrev pub state : {A : Type 0} → Outcome A → State

@@ -1,8 +1,7 @@
 -- A rule that passed every check, with what the rows of the evaluation need: a name is the number of
 -- declarations that stand between it and its own, counted outward, and sizes and offsets are in cells.
-use Prim.Native.Nat.{ℕ, zero, suc, _+_, max}
-use mathlib.Core.List.{List, [], _∷_}
-use mathlib.Core.Bool.{Bool}
+use Prim.Native.Nat.{ℕ}
+use mathlib.Core.List.{List}
 use lib.IntN.{ℤ}
 pub use Rattle.tiny.specs.Operators.{Unary, Binary, neg, not, add, sub, mul, quot, rem, and, or, lt, le, gt, ge, eq, ne}
 

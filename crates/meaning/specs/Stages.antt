@@ -1,16 +1,15 @@
 -- What each stage finds wrong with a tree, as a list of numbers with their places.
-use Prim.Native.Nat.{ℕ, zero, suc, _+_}
+use Prim.Native.Nat.{ℕ, suc, _+_}
 use mathlib.Core.List.{List, [], _∷_, _++_}
 use mathlib.Core.Bool.{Bool, true, false, cond}
 use lib.Dec.{ltb}
 use Rattle.tiny.specs.Tree.{Name, TypeTree, Fields, Expression, Formals, Statement, Statements, DeclarationTrees, BlockTree}
 use Rattle.tiny.specs.Tree as Tree
-use Rattle.meaning.specs.Types.{Ty, size, Typed, Formed, Meaning, Scope, same-name, type-of, form-of, meaning-of}
+use Rattle.meaning.specs.Types.{size, Typed, Formed, Meaning, Scope, same-name, type-of, form-of, meaning-of}
 use Rattle.meaning.specs.Types as Types
 use Rattle.meaning.specs.Statements.{Acted, Blocked, action-of, block-of, declare, meant, passed, still, seen-by, plain, inside, signature-of, procedure-scope, scope-of}
 use Rattle.meaning.specs.Statements as Statements
 use Rattle.meaning.specs.Rule.{Block}
-use Rattle.meaning.specs.Rule as Rule
 use Rattle.meaning.specs.Evaluation.{frame-size}
 
 pub record Break : Type 0 where

@@ -1,11 +1,10 @@
 -- The rules by which a statement and a block are sound, and the rule that a sound block makes.
-use Prim.Native.Nat.{ℕ, zero, suc, _+_}
+use Prim.Native.Nat.{ℕ, _+_}
 use mathlib.Core.List.{List, [], _∷_, _++_}
 use mathlib.Core.Bool.{Bool, true, false, cond, _&&_, not}
-use lib.IntN.{ℤ, pos, negsuc}
-use Rattle.tiny.specs.Tree.{Name, TypeTree, Fields, Expression, Formals, Statement, Statements, DeclarationTrees, BlockTree}
+use Rattle.tiny.specs.Tree.{Name, Expression, Formals, Statement, Statements, DeclarationTrees, BlockTree}
 use Rattle.tiny.specs.Tree as Tree
-use Rattle.meaning.specs.Types.{Ty, int, bool, size, fits, scalar, Meaning, Declared, Scope, Typed, Form, Formed, meaning-of, number-of, type-of, form-of, read-of, place, value, copies}
+use Rattle.meaning.specs.Types.{Ty, int, bool, size, fits, scalar, Meaning, Scope, Typed, Form, Formed, meaning-of, number-of, type-of, form-of, read-of, place, value, copies}
 use Rattle.meaning.specs.Types as Types
 use Rattle.meaning.specs.Rule.{Place, Value, Argument, Formal, Action, Actions, Declarations, Block}
 use Rattle.meaning.specs.Rule as Rule

@@ -1,12 +1,12 @@
 -- Types, names and what they stand for, and the rules by which an expression or a statement is sound.
-use Prim.Native.Nat.{ℕ, zero, suc, _+_, _*_}
-use mathlib.Core.List.{List, [], _∷_, _++_}
-use mathlib.Core.Bool.{Bool, true, false, cond, _&&_, not}
+use Prim.Native.Nat.{ℕ, _+_, _*_}
+use mathlib.Core.List.{List, [], _∷_}
+use mathlib.Core.Bool.{Bool, true, false, cond, _&&_}
 use lib.IntN.{ℤ, pos, negsuc}
 use lib.Dec.{eqb}
-use Rattle.tiny.specs.Tree.{Name, TypeTree, Fields, Expression, Formals, Statement, Statements, DeclarationTrees, BlockTree}
+use Rattle.tiny.specs.Tree.{Name, TypeTree, Fields, Expression}
 use Rattle.tiny.specs.Tree as Tree
-use Rattle.meaning.specs.Rule.{Unary, Binary, Place, Value, Argument, Formal, Action, Actions, Declarations, Block}
+use Rattle.meaning.specs.Rule.{Unary, Binary, Place, Value, Formal}
 use Rattle.meaning.specs.Rule as Rule
 
 mutual
