@@ -4,56 +4,51 @@ use mathlib.Core.Path.{_≡_, sym, ap, _∙_, subst}
 use native.Mathlib.Omega.{arith}
 use lib.ListN.{length}
 use Rattle.machine.specs.Host.{Host}
-use Rattle.machine.specs.Machine.{Run, going, finished, failed, run, opened}
+use Rattle.machine.specs.Machine.{Run, Standing, going, finished, failed, run, opened}
 use Rattle.meaning.specs.Rule.{Block}
 use Rattle.meaning.specs.Objects.{Outcome, done, cut, fault}
 use Rattle.meaning.specs.Meaning.{meaning}
 use Rattle.meaning.specs.MeaningLaws.{state, Is-cut, Foretells, Fault-known}
+use Rattle.meaning.specs.Evaluation.{World}
 use Rattle.meaning.specs.Evaluation as Evaluation
 use Rattle.meaning.specs.Code.{program}
-use Rattle.meaning.specs.Halves.{Likewise, dones, cuts, faults, Follows}
-use Rattle.meaning.specs.Agreement.{Agrees, Meaning-agrees, Accepted-trees-agree, Charges-are-instructions}
-use Rattle.meaning.proofs.Agree.{addresses-agree}
-use Rattle.meaning.proofs.Meant.{objects-agree}
+use Rattle.meaning.specs.Halves.{Like, Likewise, dones, cuts, faults, Same, Follows}
+use Rattle.meaning.specs.Agreement.{standing-of, Agrees, Meaning-agrees, Accepted-trees-agree, Charges-are-instructions}
+use Rattle.meaning.proofs.Addresses.{addresses-agree}
+use Rattle.meaning.proofs.Objects.{objects-agree}
 use Rattle.meaning.proofs.MeaningLaws.{cut-later, faults-known}
 use Rattle.meaning.proofs.Runs.{going-counts}
 use Rattle.meaning.proofs.Accepted.{accepted-sound}
 
-module _ (b : Block) (r : Run) where
-  ended : (f : ℕ) → r .standing ≡ finished → r .standing ≡ failed f → (21 ≤ f) × (f ≤ 27)
-  ended f e q = let z : _≡_ {A = ℕ} 0 1 = cc in absurd (omega arith)
+abbrev Not-failed : Standing → Type 0
+Not-failed going = Unit {0}
+Not-failed finished = Unit {0}
+Not-failed (failed f) = ⊥
 
-  goes-on : (f : ℕ) → r .standing ≡ going → r .standing ≡ failed f → (21 ≤ f) × (f ≤ 27)
-  goes-on f e q = let z : _≡_ {A = ℕ} 0 1 = cc in absurd (omega arith)
+module _ (b : Block) (r : Run) where
+  never : {A : Type 0} (f : ℕ) (x : Standing) → Not-failed x → r .standing ≡ x → r .standing ≡ failed f → A
+  never f going c e q = let z : _≡_ {A = ℕ} 0 1 = cc in absurd (omega arith)
+  never f finished c e q = let z : _≡_ {A = ℕ} 0 1 = cc in absurd (omega arith)
+  never f (failed g) c e q = absurd c
 
   one-fault : (f g : ℕ) → r .standing ≡ failed f → r .standing ≡ failed g → f ≡ g
   one-fault f g e q = cc
 
+  seen : (o : Outcome Unit) (w : World) → r .standing ≡ standing-of o → Like b (state o) w → Same b w r → ((f : ℕ) → r .standing ≡ failed f → (21 ≤ f) × (f ≤ 27)) → Agrees b o r
+  seen o w e l same lawful = record {
+    standing = e;
+    count = same .count ∙ l .count;
+    output = ap (λ (h : Host). h .marks) (same .host ∙ l .host);
+    input = ap (λ (h : Host). h .items) (same .host ∙ l .host);
+    variables = λ h. same .variables ∙ l .variables h;
+    lawful = lawful;
+  }
+
   agrees : {o : Outcome Unit} {e : Evaluation.Outcome Unit} → Likewise b o e → Follows b e r → Fault-known o → Agrees b o r
-  agrees (dones l) (e, same) known = record {
-    standing = e;
-    count = same .count ∙ l .count;
-    output = ap (λ (h : Host). h .marks) (same .host ∙ l .host);
-    input = ap (λ (h : Host). h .items) (same .host ∙ l .host);
-    variables = λ h. same .variables ∙ l .variables h;
-    lawful = λ f q. ended f e q;
-  }
-  agrees (cuts l) (e, same) known = record {
-    standing = e;
-    count = same .count ∙ l .count;
-    output = ap (λ (h : Host). h .marks) (same .host ∙ l .host);
-    input = ap (λ (h : Host). h .items) (same .host ∙ l .host);
-    variables = λ h. same .variables ∙ l .variables h;
-    lawful = λ f q. goes-on f e q;
-  }
-  agrees (faults {f = g} l) (e, same) known = record {
-    standing = e;
-    count = same .count ∙ l .count;
-    output = ap (λ (h : Host). h .marks) (same .host ∙ l .host);
-    input = ap (λ (h : Host). h .items) (same .host ∙ l .host);
-    variables = λ h. same .variables ∙ l .variables h;
-    lawful = λ f q. subst (λ (j : ℕ). (21 ≤ j) × (j ≤ 27)) (one-fault g f e q) known;
-  }
+  agrees (dones {s = s} {w = w} l) (e, same) known = seen (done tt s) w e l same (λ f q. never f finished tt e q)
+  agrees (cuts {s = s} {w = w} l) (e, same) known = seen (cut s) w e l same (λ f q. never f going tt e q)
+  agrees (faults {f = g} {s = s} {w = w} l) (e, same) known =
+      seen (fault g s) w e l same (λ f q. subst (λ (j : ℕ). (21 ≤ j) × (j ≤ 27)) (one-fault g f e q) known)
 
 pub meaning-agrees : Meaning-agrees
 meaning-agrees b sound cs small h n =

@@ -9,7 +9,7 @@ use Rattle.meaning.specs.Rule.{Place, Value, Argument, Formal, Block}
 use Rattle.meaning.specs.Rule as Rule
 use Rattle.meaning.specs.Types.{Ty, int, bool, array, struct, fits, scalar, Meaning, variable, reference, type-name, procedure, Scope, meaning-of, number-of, Typed, type-of, Form, place, value, copies, Formed, read-of, form-of}
 use Rattle.meaning.specs.Types as Types
-use Rattle.meaning.specs.Statements.{Acted, Blocked, Listed, Declares, Given, whena, whenb, test, dropped, onto, by-scalar, argument, aggregate, given-one, join, given, forms-of, calling, called, meant, declare, passed, still, seen-by, with-formal, signature-from, formals-from, plain, signature-of, procedure-scope, inside, scope-of, local, unseen, proc, then, with-actions, action-of, actions-of, declarations-of, block-of}
+use Rattle.meaning.specs.Statements.{Acted, Blocked, Listed, Declares, Given, when-expression, when-block, test, dropped, onto, by-scalar, argument, aggregate, given-one, join, given, forms-of, calling, called, meant, declare, passed, still, seen-by, with-formal, signature-from, formals-from, plain, signature-of, procedure-scope, inside, scope-of, local, unseen, proc, then, with-actions, action-of, actions-of, declarations-of, block-of}
 use Rattle.meaning.specs.Statements as Statements
 use Rattle.meaning.specs.Stages.{Open, added, innermost, undeclared, twice, names-type, names, names-all, names-formals, open-formals, open-declarations, names-statement, names-statements, names-declarations, names-block, own-action, kinds-type, kinds, kinds-all, callee, kinds-formals, kinds-statement, kinds-statements, kinds-declarations, kinds-block}
 use Rattle.meaning.proofs.Nil.{Nil, nil, nil-left, nil-right, either}
@@ -49,24 +49,24 @@ action-sound (Statements.Acted.sound a) at d h = tt
 action-sound (Statements.Acted.broken n) at d h = elim h [ ]
 action-sound Statements.Acted.unsound at d h = d
 
-on-form : (x : Formed) (k : Form → Ty → Acted) → SoundFormed x → ((f : Form) (t : Ty) → DecidedA (k f t)) → DecidedA (whena x k)
+on-form : (x : Formed) (k : Form → Ty → Acted) → SoundFormed x → ((f : Form) (t : Ty) → DecidedA (k f t)) → DecidedA (when-expression x k)
 on-form (Types.Formed.sound f t) k s h = h f t
 on-form (Types.Formed.broken n) k s h = s
 on-form Types.Formed.unsound k s h = s
 
-on-block : (x : Blocked) (k : Block → Acted) → SoundBlocked x → ((b : Block) → DecidedA (k b)) → DecidedA (whenb x k)
+on-block : (x : Blocked) (k : Block → Acted) → SoundBlocked x → ((b : Block) → DecidedA (k b)) → DecidedA (when-block x k)
 on-block (Statements.Blocked.sound b) k s h = h b
 on-block Statements.Blocked.unsound k s h = s
 
 on-test : (x : Formed) (k : Value → Acted) → SoundFormed x → ((v : Value) → DecidedA (k v)) → DecidedA (test x k)
 on-test x k s h = on-form x _ s (λ f t. either DecidedA (fits bool t) _ _ (λ _. h (read-of f)) tt)
 
-eval-sound : (x : Formed) → SoundFormed x → SoundActed (whena x (λ f t. Statements.Acted.sound (dropped f)))
+eval-sound : (x : Formed) → SoundFormed x → SoundActed (when-expression x (λ f t. Statements.Acted.sound (dropped f)))
 eval-sound (Types.Formed.sound f t) s = tt
 eval-sound (Types.Formed.broken n) s = s
 eval-sound Types.Formed.unsound s = s
 
-inner-sound : (x : Blocked) → SoundBlocked x → SoundActed (whenb x (λ b. Statements.Acted.sound (Rule.inner b)))
+inner-sound : (x : Blocked) → SoundBlocked x → SoundActed (when-block x (λ b. Statements.Acted.sound (Rule.inner b)))
 inner-sound (Statements.Blocked.sound b) s = tt
 inner-sound Statements.Blocked.unsound s = s
 

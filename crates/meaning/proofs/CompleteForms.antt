@@ -7,7 +7,7 @@ use lib.IntN.{ℤ, pos, negsuc}
 use Rattle.tiny.specs.Tree.{Name, TypeTree, Fields, Expression}
 use Rattle.tiny.specs.Tree as Tree
 use Rattle.meaning.specs.Rule.{Place, Value}
-use Rattle.meaning.specs.Types.{Ty, int, bool, array, struct, Members, no-member, member, fits, scalar, Meaning, variable, reference, type-name, procedure, Scope, same-name, meaning-of, number-of, Typed, when, as-type, sized, Membered, with-member, as-struct, type-of, members-of, Form, place, value, copies, Formed, whenf, on-place, read-of, named-as, allowed, signature, operand, element-of, selected, field-of, form-of}
+use Rattle.meaning.specs.Types.{Ty, int, bool, array, struct, Members, no-member, member, fits, scalar, Meaning, variable, reference, type-name, procedure, Scope, same-name, meaning-of, number-of, Typed, when-type, as-type, sized, Membered, with-member, as-struct, type-of, members-of, Form, place, value, copies, Formed, when-form, on-place, read-of, named-as, allowed, signature, operand, element-of, selected, field-of, form-of}
 use Rattle.meaning.specs.Types as Types
 use Rattle.meaning.specs.Statements.{declare}
 use Rattle.meaning.specs.Stages.{break, Open, has, known, added, undeclared, twice, names-type, names-fields, names, own-type, own-form, kinds-type, kinds-fields, kinds}
@@ -75,7 +75,7 @@ as-type-sound (type-name t) at c h = tt
 as-type-sound (procedure fs ts) at c h = elim h [ ]
 as-type-sound Meaning.unsound at c h = c
 
-array-sound : (x : Typed) (n : ℤ) (at : ℕ) → SoundTyped x → Nil (own-type (when x (sized n)) at) → SoundTyped (when x (sized n))
+array-sound : (x : Typed) (n : ℤ) (at : ℕ) → SoundTyped x → Nil (own-type (when-type x (sized n)) at) → SoundTyped (when-type x (sized n))
 array-sound (Types.Typed.sound t) (pos n) at s h = tt
 array-sound (Types.Typed.sound t) (negsuc n) at s h = elim h [ ]
 array-sound (Types.Typed.broken m) n at s h = s
@@ -124,7 +124,7 @@ form-sound (Types.Formed.sound f t) at d h = tt
 form-sound (Types.Formed.broken n) at d h = elim h [ ]
 form-sound Types.Formed.unsound at d h = d
 
-decided-when : (x : Formed) (k : Form → Ty → Formed) → SoundFormed x → ((f : Form) (t : Ty) → Decided (k f t)) → Decided (whenf x k)
+decided-when : (x : Formed) (k : Form → Ty → Formed) → SoundFormed x → ((f : Form) (t : Ty) → Decided (k f t)) → Decided (when-form x k)
 decided-when (Types.Formed.sound f t) k s h = h f t
 decided-when (Types.Formed.broken n) k s h = s
 decided-when Types.Formed.unsound k s h = s

@@ -10,7 +10,7 @@ use Rattle.meaning.specs.Rule.{Place, Value, Block}
 use Rattle.meaning.specs.Rule as Rule
 use Rattle.meaning.specs.Types.{Ty, int, bool, array, struct, fits, Meaning, variable, reference, type-name, procedure, Scope, meaning-of, number-of, Typed, type-of, Form, place, value, copies, Formed, read-of, form-of}
 use Rattle.meaning.specs.Types as Types
-use Rattle.meaning.specs.Statements.{Acted, Blocked, Listed, Declares, Given, given, forms-of, whena, whenb, test, dropped, onto, by-scalar, calling, called, meant, declare, passed, still, seen-by, with-formal, signature-from, formals-from, plain, signature-of, procedure-scope, inside, scope-of, local, unseen, proc, then, with-actions, action-of, actions-of, declarations-of, block-of}
+use Rattle.meaning.specs.Statements.{Acted, Blocked, Listed, Declares, Given, given, forms-of, when-expression, when-block, test, dropped, onto, by-scalar, calling, called, meant, declare, passed, still, seen-by, with-formal, signature-from, formals-from, plain, signature-of, procedure-scope, inside, scope-of, local, unseen, proc, then, with-actions, action-of, actions-of, declarations-of, block-of}
 use Rattle.meaning.specs.Statements as Statements
 use Rattle.meaning.specs.Stages.{large-type, large-formals, brace, large-frame, large-statement, large-statements, large-declarations, large-block, large-program}
 use Rattle.meaning.specs.Evaluation.{frame-size}
@@ -36,12 +36,12 @@ module _ (P : ℤ → Bool) (zero-is : T (P (pos 0))) (one-is : T (P (pos 1))) w
   SmallBlocked (Statements.Blocked.sound b) = SmallBlock P b
   SmallBlocked Statements.Blocked.unsound = Unit {0}
 
-  on-form : (x : Formed) (k : Form → Ty → Acted) → SmallFormed P zero-is one-is x → ((f : Form) (t : Ty) → SmallForm P zero-is one-is f → SmallActed (k f t)) → SmallActed (whena x k)
+  on-form : (x : Formed) (k : Form → Ty → Acted) → SmallFormed P zero-is one-is x → ((f : Form) (t : Ty) → SmallForm P zero-is one-is f → SmallActed (k f t)) → SmallActed (when-expression x k)
   on-form (Types.Formed.sound f t) k h g = g f t (h .0)
   on-form (Types.Formed.broken n) k h g = tt
   on-form Types.Formed.unsound k h g = tt
 
-  on-block : (x : Blocked) (k : Block → Acted) → SmallBlocked x → ((b : Block) → SmallBlock P b → SmallActed (k b)) → SmallActed (whenb x k)
+  on-block : (x : Blocked) (k : Block → Acted) → SmallBlocked x → ((b : Block) → SmallBlock P b → SmallActed (k b)) → SmallActed (when-block x k)
   on-block (Statements.Blocked.sound b) k h g = g b h
   on-block Statements.Blocked.unsound k h g = tt
 

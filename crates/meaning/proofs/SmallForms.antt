@@ -9,7 +9,7 @@ use Rattle.tiny.specs.Tree.{Name, TypeTree, Fields, Expression, Statements}
 use Rattle.tiny.specs.Tree as Tree
 use Rattle.meaning.specs.Rule.{Place, Value, Argument, Formal}
 use Rattle.meaning.specs.Rule as Rule
-use Rattle.meaning.specs.Types.{Ty, int, bool, array, struct, Members, no-member, member, size, members-size, fits, scalar, Meaning, variable, reference, type-name, procedure, Scope, same-name, meaning-of, number-of, Typed, when, as-type, sized, Membered, with-member, as-struct, type-of, members-of, Form, place, value, copies, Formed, whenf, on-place, read-of, named-as, Signature, arithmetic, logic, relation, allowed, signature, result, operand, element-of, selected, field-of, form-of}
+use Rattle.meaning.specs.Types.{Ty, int, bool, array, struct, Members, no-member, member, size, members-size, fits, scalar, Meaning, variable, reference, type-name, procedure, Scope, same-name, meaning-of, number-of, Typed, when-type, as-type, sized, Membered, with-member, as-struct, type-of, members-of, Form, place, value, copies, Formed, when-form, on-place, read-of, named-as, Signature, arithmetic, logic, relation, allowed, signature, result, operand, element-of, selected, field-of, form-of}
 use Rattle.meaning.specs.Types as Types
 use Rattle.meaning.specs.Statements.{Given, argument, aggregate, given-one, join, given, forms-of}
 use Rattle.meaning.specs.Statements as Statements
@@ -79,7 +79,7 @@ module _ (P : ℤ → Bool) (zero-is : T (P (pos 0))) (one-is : T (P (pos 1))) w
   small-as-type (procedure fs ts) h = tt
   small-as-type Meaning.unsound h = tt
 
-  small-array : (x : Typed) (n : ℤ) (at : ℕ) → SmallTyped x → T (P n) → Nil (large-typed (when x (sized n)) at) → SmallTyped (when x (sized n))
+  small-array : (x : Typed) (n : ℤ) (at : ℕ) → SmallTyped x → T (P n) → Nil (large-typed (when-type x (sized n)) at) → SmallTyped (when-type x (sized n))
   small-array (Types.Typed.sound t) (pos n) at h p k = (h, p, not-larger (n * size t) at k)
   small-array (Types.Typed.sound t) (negsuc n) at h p k = tt
   small-array (Types.Typed.broken m) n at h p k = tt
@@ -126,7 +126,7 @@ module _ (P : ℤ → Bool) (zero-is : T (P (pos 0))) (one-is : T (P (pos 1))) w
   small-read (value v) h = h
   small-read (copies p q n) h = zero-is
 
-  small-when : (x : Formed) (k : Form → Ty → Formed) → SmallFormed x → ((f : Form) (t : Ty) → SmallForm f → SmallTy t → SmallFormed (k f t)) → SmallFormed (whenf x k)
+  small-when : (x : Formed) (k : Form → Ty → Formed) → SmallFormed x → ((f : Form) (t : Ty) → SmallForm f → SmallTy t → SmallFormed (k f t)) → SmallFormed (when-form x k)
   small-when (Types.Formed.sound f t) k h g = g f t (h .0) (h .1)
   small-when (Types.Formed.broken n) k h g = tt
   small-when Types.Formed.unsound k h g = tt

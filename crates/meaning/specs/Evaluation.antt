@@ -1,4 +1,5 @@
--- The evaluation of a rule, row by row, each with its charges, cut off before charge `limit` + 1.
+-- The evaluation of a rule over a flat memory, in which a variable is cells at an address. Its rows and charges are those of
+-- the meaning, its addresses and frames those of the code: it stands between the two in the proof, and nothing rests on it.
 use Prim.Native.Nat.{ℕ, zero, suc, _+_, _*_}
 use mathlib.Core.List.{List, [], _∷_, _++_}
 use mathlib.Core.Bool.{true, false, not}

@@ -25,7 +25,7 @@ use Rattle.meaning.specs.Laws.{Spent}
 abbrev pub Source : Type 0
 Source = List ℕ
 
--- what a shelf means
+-- what a shelf means: its code, its capacity and what each instruction costs
 pub record Shelf : Type 0 where
   pub code : List Instruction
   pub capacity : ℕ

@@ -19,7 +19,7 @@ pub record Break : Type 0 where
 abbrev pub break : ℕ → ℕ → List Break
 break n p = record { number = n; at = p } ∷ []
 
--- Depth, in the order of the source: a node deeper than 96, a procedure nested deeper than 8.
+-- Depth, in the order of the source: a node deeper than 96, a procedure nested deeper than 8. d is the node's depth.
 
 abbrev pub deeper : ℕ → ℕ → ℕ → List Break
 deeper most d p = cond (ltb most d) (break 7 p) []
@@ -218,6 +218,7 @@ abbrev pub kinds-all : List Expression → Scope → List Break
 kinds-all [] Γ = []
 kinds-all (e ∷ es) Γ = kinds e Γ ++ kinds-all es Γ
 
+-- the name after call is a node of its own
 abbrev pub callee : Meaning → ℕ → List Break
 callee (Types.Meaning.variable t) at = break 10 at
 callee (Types.Meaning.reference t) at = break 10 at

@@ -1,4 +1,4 @@
-use Rattle.meaning.proofs.Agree.{addresses-agree}
+use Rattle.meaning.proofs.Addresses.{addresses-agree}
 use Rattle.meaning.proofs.addresses_stand.Needs as need
 
 pub returns : need.returns

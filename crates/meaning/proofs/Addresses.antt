@@ -1,4 +1,4 @@
--- The evaluation of a sound rule and the run of its code.
+-- The evaluation over addresses of a sound rule, and the run of its code.
 use Prim.Native.Nat.{ℕ, suc, _+_, _^_, _≤_, _<_}
 use mathlib.Core.Path.{_≡_, refl, sym, ap, _∙_, subst}
 use mathlib.Core.List.{List, [], _∷_, _++_}
