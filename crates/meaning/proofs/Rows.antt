@@ -68,16 +68,13 @@ module _ (g : Setting) (B : List ℕ) (L : Private) (T low : ℕ) where
     pub said-row : (e : Event) (i : Instruction) (ops′ : List ℤ) (pc′ : ℕ) → pc′ ≡ suc pc → ((st : S g B L T low ops pc w) → effect i (now g B L T low ops pc w st) ≡ say e (now g B L T low ops pc w st) ops′) → fetched (g .code) pc ≡ Some i →
         S g B L T low ops pc w → Ends g ((charge (g .n) >> said (g .n) e) w) (λ _. S g B L T low ops′ pc′)
     said-row e i ops′ pc′ q s f st =
-        charged g B L T low ops pc w st (λ _. S g B L T low ops′ pc′) (said (g .n) e) i f (λ l r. go l (leb (length more) (w .host .room)) (r ∙ ap (λ (x : Effect). after x (w .count) m) (s st)))
+        charged g B L T low ops pc w st (λ _. S g B L T low ops′ pc′) (said (g .n) e) i f (λ l r. go l (leb (length (h .marks)) (w .host .room)) (r ∙ ap (λ (x : Effect). after x (w .count) m) (s st)))
       where
         m : Machine
         m = mach w ops B pc (st .cells)
 
-        more : List ℕ
-        more = w .host .marks ++ w .host .renders e
-
         h : Host
-        h = record { items = w .host .items; marks = more; room = w .host .room; renders = w .host .renders }
+        h = record { items = w .host .items; marks = w .host .marks ++ w .host .renders e; room = w .host .room; renders = w .host .renders }
 
         w′ : World
         w′ = record { cells = w .cells; top = w .top; count = suc (w .count); host = h }

@@ -121,9 +121,9 @@ module _ (limit : ℕ) where
 
   abbrev pub said : Event → World → Outcome Unit
   said e w =
-      let more : List ℕ = w .host .marks ++ w .host .renders e in
-      elim (leb (length more) (w .host .room)) [
-        | true ↦ done tt (record { cells = w .cells; top = w .top; count = w .count; host = record { items = w .host .items; marks = more; room = w .host .room; renders = w .host .renders } })
+      let h : Host = record { items = w .host .items; marks = w .host .marks ++ w .host .renders e; room = w .host .room; renders = w .host .renders } in
+      elim (leb (length (h .marks)) (h .room)) [
+        | true ↦ done tt (record { cells = w .cells; top = w .top; count = w .count; host = h })
         | false ↦ fault 26 w
       ]
 
