@@ -16,7 +16,7 @@ use Rattle.machine.specs.Host.{Item, Event, wrote-int, wrote-bool, wrote-line}
 use Rattle.meaning.specs.Evaluation.{World, Outcome, done, cut, fault, _>>=_, _>>_, charge, return, save, move, hear, said, as-int, as-bool, Env, own-cells, act, act-all, run-block, found, called, ranked, own-size, actions-extent}
 use Rattle.meaning.specs.Evaluation as Evaluation
 use Rattle.machine.specs.Machine.{Machine, fetched, effect, get, say}
-use Rattle.meaning.specs.Code.{Scope, seen, place-length, value-length, arguments-length, action-length, actions-length, block-length, own-length, action-procs, block-procs, declared-procs, zeroing, procs-action, procs-actions, procs-declared, procs-block}
+use Rattle.meaning.specs.Code.{Scope, entry-of, place-length, value-length, arguments-length, action-length, actions-length, block-length, own-length, action-procs, block-procs, declared-procs, zeroing, procs-action, procs-actions, procs-declared, procs-block}
 use Rattle.meaning.specs.Code as Code
 use Rattle.meaning.specs.Sound.{Slot, holds, refers, takes, missing, slot, slots, FitsPlace, FitsValue, FitsArguments, FitsCall, FitsActions, place-need, value-need, arguments-need, actions-need}
 use Rattle.meaning.proofs.Cells.{Private, Free}
@@ -66,7 +66,7 @@ module _ (g : Setting) (again : Action → Env → ℕ → World → Outcome Uni
   cell-no missing a k j xs σ q f = f
 
   found-ok : (nine : length B ≡ 9) (Γ : Scope) (ρ : Env) (σ : List Slot) (rel : Rel (g .code) B L T Γ ρ σ) (Γ′ : Scope) (ρ′ : Env) (σ′ : List Slot) (i : ℕ) (xs : List Argument) (pc : ℕ) (w : World) →
-      Rel (g .code) B L T Γ′ ρ′ σ′ → FitsCall (slot σ′ i) xs σ → Sits (g .code) (Code.called (seen Γ′ i) xs Γ) pc → 2 + arguments-need xs ≤ 128 → At pc w →
+      Rel (g .code) B L T Γ′ ρ′ σ′ → FitsCall (slot σ′ i) xs σ → Sits (g .code) (Code.called (entry-of Γ′ i) xs Γ) pc → 2 + arguments-need xs ≤ 128 → At pc w →
       Ends g (found (g .n) again ρ′ i xs ρ w) (λ _. At (pc + (1 + (arguments-length xs + 1))))
   found-ok nine Γ ρ σ rel [] [] [] i xs pc w q f c h st = absurd f
   found-ok nine Γ ρ σ rel [] [] (x ∷ σ′) i xs pc w q f c h st = absurd q

@@ -4,7 +4,7 @@ use mathlib.Core.Path.{_≡_, refl, sym, subst}
 use mathlib.Core.Logic.{_≢_}
 use mathlib.Core.List.{List, [], _∷_}
 use native.Mathlib.Omega.{arith}
-use lib.IntN.{ℤ, pos}
+use lib.IntN.{pos}
 use lib.ListN.{length, getD, set}
 use Rattle.std.specs.declared.option.Option.the-variants.{Some}
 use Rattle.machine.specs.declared.instruction.Instruction.the-variants.{Off, St, Copy, Dup}
@@ -16,7 +16,7 @@ use Rattle.machine.specs.Machine.{goes, fetched, on, on-cells}
 use Rattle.meaning.specs.Code.{Scope, argument, arguments, formals, place-length, value-length, argument-length, arguments-length}
 use Rattle.meaning.specs.Code as Code
 use Rattle.meaning.specs.Sound.{Slot, holds, refers, FitsArgument, FitsArguments, formal-slot, formal-slots, place-need, value-need, argument-need, arguments-need}
-use Rattle.meaning.specs.Agreement as Agreement
+use Rattle.meaning.specs.Sizes as Sizes
 use Rattle.meaning.proofs.Cells as Cells
 use Rattle.meaning.proofs.Cells.{Private, held, Free, Under, Clear, Ext, ext-refl, ext-held, off-above, off-clear, under-more, mem-set, mem-keep}
 use Rattle.meaning.proofs.Tracks.{Setting, tick, mach, Ends, ends-bind, ends-assoc, charged}
@@ -27,7 +27,7 @@ use Rattle.meaning.proofs.Exprs.{S, AtPlace, plain, small-address, in-memory, 
 use Rattle.meaning.proofs.Rows.{copy-row}
 
 -- B, L, T: bases, private cells and open cells before the call; B₁: the bases inside; T₁: open cells inside; the frame begins at `start`
-module _ (g : Setting) (B : List ℕ) (L : Private) (T low : ℕ) (Γ : Scope) (ρ : Env) (σ : List Slot) (rel : Rel (g .code) B L T Γ ρ σ) (reach : 2 + Agreement.own-cells (g .b) ≤ T)
+module _ (g : Setting) (B : List ℕ) (L : Private) (T low : ℕ) (Γ : Scope) (ρ : Env) (σ : List Slot) (rel : Rel (g .code) B L T Γ ρ σ) (reach : 2 + Sizes.own-cells (g .b) ≤ T)
     (B₁ : List ℕ) (T₁ start lv : ℕ) (start-is : start ≡ T) (base-is : getD B₁ lv 0 ≡ start) where
   -- the formals so far, which end at k
   pub record Passed (k : ℕ) (Γ′ : Scope) (σ′ : List Slot) (pc : ℕ) (ρ′ : Env) (w : World) : Type 0 where
@@ -82,7 +82,7 @@ module _ (g : Setting) (B : List ℕ) (L : Private) (T low : ℕ) (Γ : Scope) (
         (set (st′ .cells) (start + k) x) (set (v .cells) (start + k) x) (v .top) (v .host)
         (within-ok (start + k) 0 (st′ .cells) (λ b. goes (on-cells (mach v (x ∷ pos (start + k) ∷ pos start ∷ []) B (suc (suc pc) + value-length u) (st′ .cells)) (pos start ∷ []) (set (st′ .cells) b x)))
         (in-memory g B (p .L′) T₁ low (start + k) 1 (st′ .cells) (v .cells) (st′ .mem) (omega (arith, f .0))))
-        (mem-set (Agreement.own-cells (g .b)) (p .L′) T₁ (st′ .cells) (v .cells) (st′ .mem) (start + k) x (omega (arith, f .0)) (off-above (p .L′) (start + k) (start + k) (p .under) (omega arith)))
+        (mem-set (Sizes.own-cells (g .b)) (p .L′) T₁ (st′ .cells) (v .cells) (st′ .mem) (start + k) x (omega (arith, f .0)) (off-above (p .L′) (start + k) (start + k) (p .under) (omega arith)))
         (st′ .top-is))))))
       where
         Q : Binding → World → Type 0
@@ -141,7 +141,7 @@ module _ (g : Setting) (B : List ℕ) (L : Private) (T low : ℕ) (Γ : Scope) (
         (set (st′ .cells) (start + k) (pos b)) (v .cells) (v .top) (v .host)
         (within-ok (start + k) 0 (st′ .cells) (λ y. goes (on-cells (mach v (pos b ∷ pos (start + k) ∷ pos start ∷ []) B (suc (suc pc) + place-length q) (st′ .cells)) (pos start ∷ []) (set (st′ .cells) y (pos b))))
         (in-memory g B (p .L′) T₁ low (start + k) 1 (st′ .cells) (v .cells) (st′ .mem) h))
-        (mem-keep (Agreement.own-cells (g .b)) (p .L′) T₁ (st′ .cells) (v .cells) (st′ .mem) (start + k) (pos b) (omega arith) (omega (arith, reach)) (off-clear (p .L′) (start + k) (off-above (p .L′) (start + k) (start + k) (p .under) (omega arith))))
+        (mem-keep (Sizes.own-cells (g .b)) (p .L′) T₁ (st′ .cells) (v .cells) (st′ .mem) (start + k) (pos b) (omega arith) (omega (arith, reach)) (off-clear (p .L′) (start + k) (off-above (p .L′) (start + k) (start + k) (p .under) (omega arith))))
         (st′ .top-is))))))
       where
         Q : Binding → World → Type 0

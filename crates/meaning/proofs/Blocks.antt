@@ -11,7 +11,7 @@ use Rattle.meaning.specs.Rule.{Place, Value, Block}
 use Rattle.meaning.specs.Rule as Rule
 use Rattle.meaning.specs.Types.{Ty, int, bool, array, struct, size, fits, Meaning, variable, reference, type-name, procedure, Typed, Scope, Form, place, value, copies, Formed, read-of, form-of, type-of, meaning-of, number-of}
 use Rattle.meaning.specs.Types as Types
-use Rattle.meaning.specs.Statements.{Acted, Blocked, Listed, Declares, Given, whena, whenb, test, dropped, onto, by-scalar, called, calling, given, forms-of, meant, declare, local, unseen, proc, then, with-actions, action-of, actions-of, declarations-of, block-of, scope-of, signature-of, formals-from, plain, inside, procedure-scope}
+use Rattle.meaning.specs.Statements.{Acted, Blocked, Listed, Declares, Given, when-expression, when-block, test, dropped, onto, by-scalar, called, calling, given, forms-of, meant, declare, local, unseen, proc, then, with-actions, action-of, actions-of, declarations-of, block-of, scope-of, signature-of, formals-from, plain, inside, procedure-scope}
 use Rattle.meaning.specs.Statements as Statements
 use Rattle.meaning.specs.Stages.{break, deeper, deep, deep-type, deep-formals, deep-statement, deep-statements, deep-declarations, deep-block}
 use Rattle.meaning.specs.Sound.{Slot, takes, slot, slots, FitsPlace, FitsValue, FitsCall, FitsAction, FitsActions, FitsDeclarations, FitsBlock, place-need, value-need, action-need, actions-need, declarations-need, block-need}
@@ -40,13 +40,13 @@ HeldDeclares (Statements.Declares.sound ds) σ σ′ l = FitsDeclarations ds σ 
 HeldDeclares Statements.Declares.unsound σ σ′ l = Unit {0}
 
 on-form : (x : Formed) (k : Form → Ty → Acted) (σ : List Slot) (d l : ℕ) → HeldFormed x σ d →
-    ((f : Form) (t : Ty) → Held f t σ d → HeldActed (k f t) σ l) → HeldActed (whena x k) σ l
+    ((f : Form) (t : Ty) → Held f t σ d → HeldActed (k f t) σ l) → HeldActed (when-expression x k) σ l
 on-form (Types.Formed.sound f t) k σ d l h g = g f t h
 on-form (Types.Formed.broken n) k σ d l h g = tt
 on-form Types.Formed.unsound k σ d l h g = tt
 
 on-block : (x : Blocked) (k : Block → Acted) (σ : List Slot) (l : ℕ) → HeldBlocked x σ l →
-    ((b : Block) → FitsBlock b σ l → block-need b ≤ 128 → HeldActed (k b) σ l) → HeldActed (whenb x k) σ l
+    ((b : Block) → FitsBlock b σ l → block-need b ≤ 128 → HeldActed (k b) σ l) → HeldActed (when-block x k) σ l
 on-block (Statements.Blocked.sound b) k σ l h g = g b (h .0) (h .1)
 on-block Statements.Blocked.unsound k σ l h g = tt
 

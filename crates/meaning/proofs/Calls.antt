@@ -12,13 +12,13 @@ use Rattle.std.specs.declared.option.Option.the-variants.{Some}
 use Rattle.machine.specs.declared.instruction.Instruction.the-variants.{Frame, Enter, Leave}
 use Rattle.meaning.specs.Rule.{Argument, Formal, Action, Block}
 use Rattle.meaning.specs.Rule as Rule
-use Rattle.meaning.specs.Evaluation.{World, Outcome, done, cut, fault, _>>=_, _>>_, charge, return, take-frame, give-back, called, Env, zeroed, formal-size, formals-size, frame-size, action-extent}
+use Rattle.meaning.specs.Evaluation.{World, Outcome, done, cut, fault, _>>=_, _>>_, charge, take-frame, give-back, called, Env, zeroed, formal-size, formals-size, frame-size, action-extent}
 use Rattle.meaning.specs.Evaluation as Evaluation
 use Rattle.machine.specs.Machine.{Machine, Effect, goes, fails, fetched, after, effect, within, link}
 use Rattle.meaning.specs.Code.{Scope, arguments, formals, action, procs-action, action-length, block-length, arguments-length}
 use Rattle.meaning.specs.Code as Code
 use Rattle.meaning.specs.Sound.{Slot, takes, FitsArguments, FitsAction, formal-slots, arguments-need, action-need}
-use Rattle.meaning.specs.Agreement as Agreement
+use Rattle.meaning.specs.Sizes as Sizes
 use Rattle.meaning.proofs.Cells as Cells
 use Rattle.meaning.proofs.Cells.{Private, held, reserved, Free, Under, Kept, Mem, Ext, ext-refl, ext-held, ext-reserved, off-above, off-clear, under-more, mem-frame, mem-reserve, mem-keep, mem-back}
 use Rattle.meaning.proofs.Tracks.{Setting, St, tick, mach, Ends, ends-bind, charged, fault-here}
@@ -70,7 +70,7 @@ module _ (g : Setting) (again : Action → Env → ℕ → World → Outcome Uni
   slots = formal-slots fs (takes fs ∷ σ″)
 
   -- the frame that begins at `start`
-  module _ (start : ℕ) (start-is : start ≡ T) (outer : Free L 2 (Agreement.own-cells (g .b))) (under : Under L T) (reach : 2 + Agreement.own-cells (g .b) ≤ T) where
+  module _ (start : ℕ) (start-is : start ≡ T) (outer : Free L 2 (Sizes.own-cells (g .b))) (under : Under L T) (reach : 2 + Sizes.own-cells (g .b) ≤ T) where
     base-is : getD (set B lv start) lv 0 ≡ start
     base-is = getD-set-same B lv start 0 lv<9
 
@@ -86,7 +86,7 @@ module _ (g : Setting) (again : Action → Env → ℕ → World → Outcome Uni
     leave-ok L₂ pcE w ext k₁ k₂ st =
         charged g (set B lv start) L₂ (T + frame-size fs b) low [] (t + block-length b) w st (λ _. St g B L T low [] (suc pcE)) (give-back (g .n) start) (Leave lv) (proc .leave)
         (λ l e. advance g (set B lv start) L₂ (T + frame-size fs b) low [] (t + block-length b) w st (Leave lv) l e B L T [] (suc pcE) (st .cells) (w .cells) start (w .host) eff
-        (mem-back (Agreement.own-cells (g .b)) L T L₂ (T + frame-size fs b) (st .cells) (w .cells) ext (omega arith) under outer reach (st .mem)) start-is)
+        (mem-back (Sizes.own-cells (g .b)) L T L₂ (T + frame-size fs b) (st .cells) (w .cells) ext (omega arith) under outer reach (st .mem)) start-is)
       where
         M : List ℤ
         M = st .cells
@@ -115,8 +115,8 @@ module _ (g : Setting) (again : Action → Env → ℕ → World → Outcome Uni
         (relow g (set B lv start) L₂ (T + frame-size fs b) low (suc low) [] t (tick w) (omega (arith, st .low-is))
         (advance g B L₁ (T + frame-size fs b) low (pos start ∷ []) pcE w st (Enter lv t) l e (set B lv start) L₂ (T + frame-size fs b) [] t M₂ (w .cells) (w .top) (w .host)
         (within-ok start 1 (st .cells) (λ a. goes (record { operands = []; bases = set B lv a; next = t; top = w .top; cells = set (set (st .cells) a (pos (suc pcE))) (suc a) (pos (getD B lv 0)); host = w .host })) (omega (arith, st .mem .len, st .mem .fits)))
-        (mem-keep (Agreement.own-cells (g .b)) (held start (pos (suc pcE)) ∷ L₁) (T + frame-size fs b) (set (st .cells) start (pos (suc pcE))) (w .cells)
-        (mem-keep (Agreement.own-cells (g .b)) L₁ (T + frame-size fs b) (st .cells) (w .cells) (st .mem) start (pos (suc pcE)) (omega arith) (omega arith) (d .clear .0))
+        (mem-keep (Sizes.own-cells (g .b)) (held start (pos (suc pcE)) ∷ L₁) (T + frame-size fs b) (set (st .cells) start (pos (suc pcE))) (w .cells)
+        (mem-keep (Sizes.own-cells (g .b)) L₁ (T + frame-size fs b) (st .cells) (w .cells) (st .mem) start (pos (suc pcE)) (omega arith) (omega arith) (d .clear .0))
         (suc start) (pos (getD B lv 0)) (omega arith) (omega arith) (omega arith, d .clear .1))
         (st .top-is))))
         (λ _ v st′. leave-ok L₂ pcE v
@@ -193,8 +193,8 @@ module _ (g : Setting) (again : Action → Env → ℕ → World → Outcome Uni
           st = record {
             cells = st .cells;
             is = st .is;
-            mem = mem-reserve (Agreement.own-cells (g .b)) (reserved start ∷ L) (T + frame-size fs b) (st .cells) (w .cells)
-                (mem-reserve (Agreement.own-cells (g .b)) L (T + frame-size fs b) (st .cells) (w .cells) (st .mem) start (omega arith) (omega arith)) (suc start) (omega arith) (omega arith);
+            mem = mem-reserve (Sizes.own-cells (g .b)) (reserved start ∷ L) (T + frame-size fs b) (st .cells) (w .cells)
+                (mem-reserve (Sizes.own-cells (g .b)) L (T + frame-size fs b) (st .cells) (w .cells) (st .mem) start (omega arith) (omega arith)) (suc start) (omega arith) (omega arith);
             top-is = st .top-is;
             low-is = st .low-is;
             bound = st .bound;
@@ -228,8 +228,8 @@ module _ (g : Setting) (again : Action → Env → ℕ → World → Outcome Uni
       go l true q e = passed-ok (w .top) (st .top-is) (st .mem .outer) (st .mem .under) (st .mem .reach) w′ (record {
         cells = zeroed (st .cells) (w .top) (frame-size fs b);
         is = e;
-        mem = subst (λ x. Mem (Agreement.own-cells (g .b)) L (T + frame-size fs b) (zeroed (st .cells) x (frame-size fs b)) (zeroed (w .cells) x (frame-size fs b))) (sym (st .top-is))
-            (mem-frame (Agreement.own-cells (g .b)) L T (st .cells) (w .cells) (st .mem) (frame-size fs b) room);
+        mem = subst (λ x. Mem (Sizes.own-cells (g .b)) L (T + frame-size fs b) (zeroed (st .cells) x (frame-size fs b)) (zeroed (w .cells) x (frame-size fs b))) (sym (st .top-is))
+            (mem-frame (Sizes.own-cells (g .b)) L T (st .cells) (w .cells) (st .mem) (frame-size fs b) room);
         top-is = ap (λ (x : ℕ). x + frame-size fs b) (st .top-is);
         low-is = omega (arith, st .low-is);
         bound = l;

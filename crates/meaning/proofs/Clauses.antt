@@ -14,13 +14,18 @@ use Rattle.meaning.specs.Rule.{Block}
 use Rattle.machine.specs.Host.{Host}
 use Rattle.machine.specs.Machine.{Run}
 use Rattle.meaning.specs.Lives.{Source, Shelf, Tie, Engine, no-run, runs, Loads, Life, load-refused, Agreed, Rules-sound, most-cells, most-count, is-going, open-cause, step-cause, after-open, after-step}
-use Rattle.meaning.specs.Clauses.{Own, Load-clause, Open-clause, Step-clause}
+use Rattle.meaning.specs.Clauses.{Own, Spends, Load-clause, Open-clause, Step-clause}
 use Rattle.meaning.proofs.Tracks.{is-true}
-use Rattle.meaning.proofs.Lives.{lives-agree, load-carries, open-carries, step-carries}
+use Rattle.meaning.proofs.Lives.{lives-agree, steps-spend, load-carries, open-carries, step-carries}
 
 own-opened : (o : Option ℕ) (t : Tie) (e : Engine) → o ≡ None → Own (after-open o t e) (t .code) (t .cells) (t .host)
 own-opened None t e q = (refl, refl, refl)
 own-opened (Some cause) t e q = let z : _≡_ {A = ℕ} 0 1 = cc in absurd (omega arith)
+
+spends : (answer : Option ℕ) (m k : ℕ) (e : Engine) → answer ≡ step-cause e m k → answer ≡ None → Spends k e (after-step answer k e)
+spends (Some cause) m k e q none = let z : _≡_ {A = ℕ} 0 1 = cc in absurd (omega arith)
+spends None m k no-run q none = let z : _≡_ {A = ℕ} 0 1 = cc in absurd (omega arith)
+spends None m k (runs t r) q none = (refl, steps-spend t r m k (sym q) .0)
 
 module _ (shown left : Engine → Type 0) where
   pub load-accepted : (rule-of : Source → Option Block) (s : Source) (before after : Shelf) → Loads rule-of s before after → left no-run →
@@ -47,10 +52,10 @@ module _ (shown left : Engine → Type 0) where
   pub step-clause : (answer : Option ℕ) (m k : ℕ) (c : List Instruction) (cs : List ℤ) (h : Host) (cs′ : List ℤ) (h′ : Host) → ((e : Engine) → shown e → answer ≡ step-cause e m k) →
       ((e : Engine) → shown e → (answer ≡ None → Own e c cs h) → left (after-step answer k e) × (answer ≡ None → Own (after-step answer k e) c cs′ h′)) →
       Step-clause shown left answer k c cs h cs′ h′
-  step-clause answer m k c cs h cs′ h′ q is rule-of sound e (x, own) life = (is e x own, on .0, on .1)
+  step-clause answer m k c cs h cs′ h′ q is = ((λ rule-of sound e (x, own) life. (is e x own, on rule-of sound e x life .0, on rule-of sound e x life .1)), λ e x none. spends answer m k e (q e x) none)
     where
-      on : Life rule-of (after-step answer k e) × Agreed rule-of (after-step answer k e)
-      on = subst (λ (a : Option ℕ). Life rule-of (after-step a k e) × Agreed rule-of (after-step a k e)) (sym (q e x)) (step-carries rule-of sound e life m k)
+      on : (rule-of : Source → Option Block) → Rules-sound rule-of → (e : Engine) → shown e → Life rule-of e → Life rule-of (after-step answer k e) × Agreed rule-of (after-step answer k e)
+      on rule-of sound e x life = subst (λ (a : Option ℕ). Life rule-of (after-step a k e) × Agreed rule-of (after-step a k e)) (sym (q e x)) (step-carries rule-of sound e life m k)
 
 eqb-same : (a : ℕ) → eqb a a ≡ true
 eqb-same a = is-true (eqb a a) (eqb-refl a)

@@ -11,7 +11,7 @@ use Rattle.machine.specs.declared.instruction.Instruction.{Instruction}
 use Rattle.machine.specs.declared.instruction.Instruction.the-variants.{Copy}
 use Rattle.meaning.specs.Evaluation.{World, moved}
 use Rattle.machine.specs.Machine.{Machine, Effect, goes, fails, after, effect, room, made, within, on-cells}
-use Rattle.meaning.specs.Agreement.{own-cells}
+use Rattle.meaning.specs.Sizes.{own-cells}
 use Rattle.machine.specs.Host.{Host}
 use Rattle.meaning.proofs.Cells.{Private, Mem}
 use Rattle.meaning.proofs.Tracks.{Setting, St, now, cond-yes}

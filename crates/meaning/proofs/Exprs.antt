@@ -2,7 +2,7 @@
 use Prim.Native.Nat.{ℕ, suc, _+_, _*_, _^_, _≤_, _<_}
 use mathlib.Core.Path.{_≡_, refl, sym, ap, _∙_, subst}
 use mathlib.Core.List.{List, [], _∷_}
-use mathlib.Core.Bool.{Bool, true, false, cond, not}
+use mathlib.Core.Bool.{Bool, true, false, cond}
 use native.Mathlib.Omega.{arith}
 use native.Mathlib.Nat.{mul-le-mul-right}
 use lib.IntN.{ℤ, pos, negsuc}
@@ -10,7 +10,7 @@ use lib.ListN.{length, getD, set}
 use lib.Dec.{T, ltb, ltb→lt}
 use Rattle.std.specs.declared.option.Option.the-variants.{Some}
 use Rattle.machine.specs.declared.instruction.Instruction.{Instruction}
-use Rattle.machine.specs.declared.instruction.Instruction.the-variants.{Lit, Var, Off, Ld, St, Stk, Index}
+use Rattle.machine.specs.declared.instruction.Instruction.the-variants.{Lit, Var, Off, Ld, Stk, Index}
 use Rattle.meaning.specs.Rule.{Place, Value, Unary, Binary}
 use Rattle.meaning.specs.Rule as Rule
 use Rattle.machine.specs.Ints.{Answer, gives, faults, unary-of, binary-of}
@@ -18,10 +18,10 @@ use Rattle.meaning.specs.Evaluation.{World, Outcome, done, fault, _>>=_, _>>_,
 use Rattle.meaning.specs.Evaluation as Evaluation
 use Rattle.machine.specs.Machine.{Machine, Effect, goes, fails, fetched, after, effect, room, made, on, on-cells, settled}
 use Rattle.machine.specs.Machine as Machine
-use Rattle.meaning.specs.Code.{Scope, Entry, var, seen, place-length, value-length}
+use Rattle.meaning.specs.Code.{Scope, Entry, var, entry-of, place-length, value-length}
 use Rattle.meaning.specs.Code as Code
 use Rattle.meaning.specs.Sound.{Slot, holds, refers, slot, FitsPlace, FitsValue, place-need, value-need}
-use Rattle.meaning.specs.Agreement.{own-cells}
+use Rattle.meaning.specs.Sizes.{own-cells}
 use Rattle.meaning.proofs.Cells.{Private, Free, Mem, mem-set}
 use Rattle.meaning.proofs.Tracks.{Setting, tick, now, Ends, ends-bind, charged, fault-here}
 use Rattle.meaning.proofs.Tracks as Tracks
@@ -80,7 +80,7 @@ module _ (g : Setting) (B : List ℕ) (L : Private) (T low : ℕ) where
     abbrev pub AtPlace : ℕ → List ℤ → ℕ → ℕ → World → Type 0
     AtPlace s ops pc a w = (a + s ≤ U) × Free L a s × S (pos a ∷ ops) pc w
 
-    variable-ok : (i s : ℕ) → slot σ i ≡ holds s → (ops : List ℤ) (pc : ℕ) (w : World) → fetched (g .code) pc ≡ Some (var (seen Γ i)) → length ops < 128 → S ops pc w →
+    variable-ok : (i s : ℕ) → slot σ i ≡ holds s → (ops : List ℤ) (pc : ℕ) (w : World) → fetched (g .code) pc ≡ Some (var (entry-of Γ i)) → length ops < 128 → S ops pc w →
         Ends g (Evaluation.place (g .n) (Rule.variable i) ρ w) (AtPlace s ops (pc + 1))
     variable-ok i s e ops pc w f h st =
         plain (AtPlace s ops (pc + 1)) (return (address-of ρ i)) ops pc w st (Var (found .l) (found .k)) (f ∙ ap (λ (x : Entry). Some (var x)) (found .seen-is))
@@ -98,7 +98,7 @@ module _ (g : Setting) (B : List ℕ) (L : Private) (T low : ℕ) where
         c : RelCell (g .code) B L U (found .l) (found .k) (address-of ρ i) (holds s)
         c = found .cell
 
-    reference-ok : (i s : ℕ) → slot σ i ≡ refers s → (ops : List ℤ) (pc : ℕ) (w : World) → fetched (g .code) pc ≡ Some (var (seen Γ i)) → fetched (g .code) (suc pc) ≡ Some Ld →
+    reference-ok : (i s : ℕ) → slot σ i ≡ refers s → (ops : List ℤ) (pc : ℕ) (w : World) → fetched (g .code) pc ≡ Some (var (entry-of Γ i)) → fetched (g .code) (suc pc) ≡ Some Ld →
         length ops < 128 → S ops pc w → Ends g (Evaluation.place (g .n) (Rule.reference i) ρ w) (AtPlace s ops (pc + 2))
     reference-ok i s e ops pc w f f′ h st =
         plain (AtPlace s ops (pc + 2)) (charge (g .n) >> return (address-of ρ i)) ops pc w st (Var (found .l) (found .k)) (f ∙ ap (λ (x : Entry). Some (var x)) (found .seen-is))

@@ -9,7 +9,7 @@ use Rattle.tiny.specs.Tree.{Name, Expression}
 use Rattle.tiny.specs.Tree as Tree
 use Rattle.meaning.specs.Rule.{Place, Value, Unary}
 use Rattle.meaning.specs.Rule as Rule
-use Rattle.meaning.specs.Types.{Ty, Members, int, bool, array, struct, no-member, member, size, members-size, fits, members-fit, scalar, Meaning, Scope, Form, place, value, copies, Formed, whenf, on-place, read-of, named-as, assigned, Signature, arithmetic, logic, relation, signature, allowed, result, operand, element-of, selected, field-of, form-of, number-of, meaning-of, same-name}
+use Rattle.meaning.specs.Types.{Ty, Members, int, bool, array, struct, no-member, member, size, members-size, fits, members-fit, scalar, Meaning, Scope, Form, place, value, copies, Formed, when-form, on-place, read-of, named-as, assigned, Signature, arithmetic, logic, relation, signature, allowed, result, operand, element-of, selected, field-of, form-of, number-of, meaning-of, same-name}
 use Rattle.meaning.specs.Types as Types
 use Rattle.meaning.specs.Sound.{Slot, slot, FitsPlace, FitsValue, place-need, value-need}
 use Rattle.meaning.specs.Stages.{deep, deeper}
@@ -70,7 +70,7 @@ read-held (value v) t σ d h e = (h .0, h .1)
 read-held (copies p q n) t σ d h e = (tt, omega arith)
 
 on-form : (x : Formed) (k : Form → Ty → Formed) (σ : List Slot) (d d′ : ℕ) → HeldFormed x σ d →
-    ((f : Form) (t : Ty) → Held f t σ d → HeldFormed (k f t) σ d′) → HeldFormed (whenf x k) σ d′
+    ((f : Form) (t : Ty) → Held f t σ d → HeldFormed (k f t) σ d′) → HeldFormed (when-form x k) σ d′
 on-form (Types.Formed.sound f t) k σ d d′ h g = g f t h
 on-form (Types.Formed.broken n) k σ d d′ h g = tt
 on-form Types.Formed.unsound k σ d d′ h g = tt

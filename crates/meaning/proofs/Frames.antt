@@ -16,7 +16,7 @@ use Rattle.meaning.specs.Objects.{State, Object, Reference}
 use Rattle.meaning.specs.Objects as Objects
 use Rattle.meaning.specs.Meaning as Meaning
 use Rattle.meaning.specs.Sound.{Slot, holds, slots, FitsDeclarations}
-use Rattle.meaning.specs.MeaningAgreement.{Like}
+use Rattle.meaning.specs.Halves.{Like}
 use Rattle.meaning.proofs.Cells.{patched-length, patched-before, patched-in}
 use Rattle.meaning.proofs.Stretches.{Stretch, Layout, Apart, Store, Grown, push, push-new, push-length, apart-push, store-push, store-cells, store-cut, grown-append, grown-more, layout}
 use Rattle.meaning.proofs.Pairs.{Alike, dones, faults, Both, outer, like, Place-at}

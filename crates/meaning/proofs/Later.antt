@@ -1,262 +1,223 @@
--- Every part of an evaluation, under two limits.
-use Prim.Native.Nat.{ℕ, zero, suc, _+_, _*_, _^_, _≤_, _<_}
-use mathlib.Core.Path.{_≡_, refl, sym}
+-- Every part of the meaning, under two limits.
+use Prim.Native.Nat.{ℕ, zero, suc, _+_, _-_, _*_, _≤_, _<_}
+use mathlib.Core.Path.{_≡_, refl}
 use mathlib.Core.List.{List, [], _∷_, _++_}
 use mathlib.Core.Bool.{Bool, true, false, not}
 use native.Mathlib.Omega.{arith}
-use lib.IntN.{ℤ, pos, negsuc, _+ℤ_, _-ℤ_, _*ℤ_, negℤ}
-use lib.Signed.{quotZ, mag}
-use lib.ListN.{length}
-use lib.Dec.{leb, ltb}
-use Rattle.std.proofs.shelf.Lists.{append-nil}
-use Rattle.meaning.specs.Rule.{Unary, Binary, Place, Value, Argument, Formal, Action, Actions, Block}
+use lib.IntN.{ℤ, pos}
+use lib.ListN.{length, take, replicate}
+use lib.Dec.{leb}
+use Rattle.machine.specs.Ints.{Answer, gives, faults, unary-of, binary-of, is-zero, in-range, nat}
+use Rattle.machine.specs.Host.{Item, Event, wrote-int, wrote-bool, wrote-line, as-int, as-bool}
+use Rattle.meaning.specs.Rule.{Place, Value, Argument, Formal, Action, Actions, Declarations, Block}
 use Rattle.meaning.specs.Rule as Rule
-use Rattle.machine.specs.Ints.{Answer, gives, faults, unary-of, binary-of, is-zero, fit, unless-zero}
-use Rattle.machine.specs.Host.{Item, number, unreadable, Event, wrote-int, wrote-bool, wrote-line, bit}
-use Rattle.meaning.specs.Evaluation.{World, Outcome, done, fault, _>>=_, _>>_, return, charge, Binding, at, procedure, Env, formal-size, formals-size, own-size, frame-size, address-of, as-int, as-bool, in-range, nat, zeroed, load, save, settle, indexed, place, value, take-frame, give-back, clear, own-cells, move, taken, hear, said, given, arguments, declared, called, found, act, run-block, act-all, ranked, program}
-use Rattle.meaning.proofs.Both.{Side, early, late, Pair, Quiet, quiet, further-refl, bind, charged, charge-last, lower}
+use Rattle.meaning.specs.Sizes.{own-size, frame-size}
+use Rattle.meaning.specs.Objects.{State, Outcome, done, fault, _>>=_, _>>_, return, Object, Reference, beyond, Binding, names, procedure, Env, reference-of, with-objects, with-host, new, part, load, save, move, scoped, settle, indexed, taken, hear, said}
+use Rattle.meaning.specs.Meaning.{declare, charge, place, value, enter, leave, given, arguments, entry, called, found, act, act-all, block, ranked, program}
+use Rattle.meaning.proofs.Fair.{Fair, unary-fair, binary-fair, int-fair, bool-fair}
+use Rattle.meaning.proofs.Limits.{Side, early, late, Pair, Quiet, quiet, further-refl, bind, charged, charge-last, lower}
 
--- an answer that is a fault is one of 21 to 27
-abbrev Fair : Answer → Type 0
-Fair (gives z) = Unit {0}
-Fair (faults f) = (21 ≤ f) × (f ≤ 27)
-
-fit-fair : (z : ℤ) → Fair (fit z)
-fit-fair z = go (ltb (mag z) (2 ^ 31))
-  where
-    go : (b : Bool) → Fair (mathlib.Core.Bool.cond b (gives z) (faults 22))
-    go true = tt
-    go false = omega arith
-
-unless-fair : (d : ℤ) (a : Answer) → Fair a → Fair (unless-zero d a)
-unless-fair d a h = go (is-zero d)
-  where
-    go : (b : Bool) → Fair (mathlib.Core.Bool.cond b (faults 23) a)
-    go true = omega arith
-    go false = h
-
-unary-fair : (o : Unary) (x : ℤ) → Fair (unary-of o x)
-unary-fair Rule.neg x = fit-fair (negℤ x)
-unary-fair Rule.not x = tt
-
-binary-fair : (o : Binary) (x y : ℤ) → Fair (binary-of o x y)
-binary-fair Rule.add x y = fit-fair (x +ℤ y)
-binary-fair Rule.sub x y = fit-fair (x -ℤ y)
-binary-fair Rule.mul x y = fit-fair (x *ℤ y)
-binary-fair Rule.quot x y = unless-fair y (fit (quotZ x y)) (fit-fair (quotZ x y))
-binary-fair Rule.rem x y = unless-fair y (gives (lib.Signed.remZ x y)) tt
-binary-fair Rule.and x y = tt
-binary-fair Rule.or x y = tt
-binary-fair Rule.lt x y = tt
-binary-fair Rule.le x y = tt
-binary-fair Rule.gt x y = tt
-binary-fair Rule.ge x y = tt
-binary-fair Rule.eq x y = tt
-binary-fair Rule.ne x y = tt
-
-bit-fair : (z : ℤ) → Fair (bit z)
-bit-fair (pos zero) = tt
-bit-fair (pos (suc zero)) = tt
-bit-fair (pos (suc (suc n))) = omega arith
-bit-fair (negsuc n) = omega arith
-
-int-fair : (i : Item) → Fair (as-int i)
-int-fair (number z) = tt
-int-fair unreadable = omega arith
-
-bool-fair : (i : Item) → Fair (as-bool i)
-bool-fair (number z) = bit-fair z
-bool-fair unreadable = omega arith
-
-module _ (lim : Side → ℕ) (order : lim early ≤ lim late) (low : ℕ) where
-  on : {A B : Type 0} {M : Side → World → Outcome A} {K : Side → A → World → Outcome B} → Pair lim low M → ((a : A) → Pair lim low (λ s. K s a)) → Pair lim low (λ s. M s >>= K s)
+module _ (lim : Side → ℕ) (order : lim early ≤ lim late) (room low : ℕ) where
+  on : {A B : Type 0} {M : Side → State → Outcome A} {K : Side → A → State → Outcome B} → Pair lim low M → ((a : A) → Pair lim low (λ s. K s a)) → Pair lim low (λ s. M s >>= K s)
   on m k = bind lim order low m k
 
-  raise : {A : Type 0} {M : Side → World → Outcome A} → Pair lim low M → Pair lim (suc low) M
+  raise : {A : Type 0} {M : Side → State → Outcome A} → Pair lim low M → Pair lim (suc low) M
   raise m = lower lim order low (suc low) (omega arith) m
 
-  cost : {A : Type 0} {K : Side → World → Outcome A} → Pair lim low K → Pair lim low (λ s. charge (lim s) >> K s)
-  cost k = charged lim order low (raise k)
+  cost : {A : Type 0} {K : Side → State → Outcome A} → Pair lim low K → Pair lim low (λ s. charge (lim s) room >> K s)
+  cost k = charged lim order room low (raise k)
 
-  end : Pair lim low (λ s. charge (lim s))
-  end = charge-last lim order low
+  end : Pair lim low (λ s. charge (lim s) room)
+  end = charge-last lim order room low
 
-  -- rows without a charge
-  return-ok : {A : Type 0} (a : A) → Pair lim low (λ s. return a)
-  return-ok a = quiet lim order low (λ s. return a) (λ w. (refl, further-refl w w refl refl, refl))
+  -- steps without a charge, which leave the host alone
+  step : {A : Type 0} (M : State → Outcome A) → ((s : State) → Quiet lim order s (M s) (M s)) → Pair lim low (λ x. M)
+  step M q = quiet lim order low (λ x. M) q
 
-  load-ok : (a : ℕ) → Pair lim low (λ s. load (lim s) a)
-  load-ok a = quiet lim order low (λ s. load (lim s) a) (λ w. (refl, further-refl w w refl refl, refl))
+  return-ok : {A : Type 0} (a : A) → Pair lim low (λ x. return a)
+  return-ok a = step (return a) (λ s. (refl, further-refl s s refl refl, refl))
 
-  save-ok : (a : ℕ) (z : ℤ) → Pair lim low (λ s. save (lim s) a z)
-  save-ok a z = quiet lim order low (λ s. save (lim s) a z) (λ w. (refl, further-refl w _ refl refl, refl))
+  new-ok : (f : State → Object) → Pair lim low (λ x s. new (f s) s)
+  new-ok f = step (λ s. new (f s) s) (λ s. (refl, further-refl s _ refl refl, refl))
 
-  move-ok : (a b n : ℕ) → Pair lim low (λ s. move (lim s) a b n)
-  move-ok a b n = quiet lim order low (λ s. move (lim s) a b n) (λ w. (refl, further-refl w _ refl refl, refl))
+  load-ok : (r : Reference) → Pair lim low (λ x. load r)
+  load-ok r = step (load r) (λ s. (refl, further-refl s s refl refl, refl))
 
-  give-back-ok : (a : ℕ) → Pair lim low (λ s. give-back (lim s) a)
-  give-back-ok a = quiet lim order low (λ s. give-back (lim s) a) (λ w. (refl, further-refl w _ refl refl, refl))
+  save-ok : (r : Reference) (z : ℤ) → Pair lim low (λ x. save r z)
+  save-ok r z = step (save r z) (λ s. (refl, further-refl s _ refl refl, refl))
 
-  clear-ok : (a n : ℕ) → Pair lim low (λ s. clear (lim s) a n)
-  clear-ok a n = quiet lim order low (λ s. clear (lim s) a n) (λ w. (refl, further-refl w _ refl refl, refl))
+  move-ok : (r q : Reference) (n : ℕ) → Pair lim low (λ x. move r q n)
+  move-ok r q n = step (move r q n) (λ s. (refl, further-refl s _ refl refl, refl))
 
-  settle-ok : (a : Answer) → Fair a → Pair lim low (λ s. settle (lim s) a)
-  settle-ok (gives z) h = quiet lim order low (λ s. settle (lim s) (gives z)) (λ w. (refl, further-refl w w refl refl, refl))
-  settle-ok (faults f) h = quiet lim order low (λ s. settle (lim s) (faults f)) (λ w. (refl, h .0, h .1, refl))
+  leave-ok : (n o : ℕ) → Pair lim low (λ x. leave (lim x) room n o)
+  leave-ok n o = quiet lim order low (λ x. leave (lim x) room n o) (λ s. (refl, further-refl s _ refl refl, refl))
 
-  indexed-ok : (a : ℕ) (i : ℤ) (n k : ℕ) → Pair lim low (λ s. indexed (lim s) a i n k)
-  indexed-ok a i n k = quiet lim order low (λ s. indexed (lim s) a i n k) (λ w. go w (in-range i n))
+  settle-ok : (a : Answer) → Fair a → Pair lim low (λ x. settle a)
+  settle-ok (gives z) h = step (settle (gives z)) (λ s. (refl, further-refl s s refl refl, refl))
+  settle-ok (faults f) h = step (settle (faults f)) (λ s. (refl, h .0, h .1, refl))
+
+  indexed-ok : (r : Reference) (i : ℤ) (n m : ℕ) → Pair lim low (λ x. indexed r i n m)
+  indexed-ok r i n m = step (indexed r i n m) (λ s. go s (in-range i n))
     where
-      to : World → Bool → Outcome ℕ
-      to w b = elim b as (λ x. Outcome ℕ) [ true ↦ done (a + nat i * k) w | false ↦ fault 21 w ]
+      to : State → Bool → Outcome Reference
+      to s b = elim b as (λ x. Outcome Reference) [ true ↦ done (beyond r (nat i * m)) s | false ↦ fault 21 s ]
 
-      go : (w : World) (b : Bool) → Quiet lim order w (to w b) (to w b)
-      go w true = (refl, further-refl w w refl refl, refl)
-      go w false = (refl, omega arith, omega arith, refl)
+      go : (s : State) (b : Bool) → Quiet lim order s (to s b) (to s b)
+      go s true = (refl, further-refl s s refl refl, refl)
+      go s false = (refl, omega arith, omega arith, refl)
 
-  take-frame-ok : (n : ℕ) → Pair lim low (λ s. take-frame (lim s) n)
-  take-frame-ok n = quiet lim order low (λ s. take-frame (lim s) n) (λ w. go w (leb (w .top + n) (length (w .cells))))
+  enter-ok : (n : ℕ) → Pair lim low (λ x. enter (lim x) room n)
+  enter-ok n = quiet lim order low (λ x. enter (lim x) room n) (λ s. go s (leb (s .used + n) room))
     where
-      next : World → World
-      next w = record { cells = zeroed (w .cells) (w .top) n; top = w .top + n; host = w .host; count = w .count }
+      next : State → State
+      next s = record { objects = s .objects; used = s .used + n; host = s .host; count = s .count }
 
-      to : World → Bool → Outcome ℕ
-      to w b = elim b as (λ x. Outcome ℕ) [ true ↦ done (w .top) (next w) | false ↦ fault 27 w ]
+      to : State → Bool → Outcome ℕ
+      to s b = elim b as (λ x. Outcome ℕ) [ true ↦ done (length (s .objects)) (next s) | false ↦ fault 27 s ]
 
-      go : (w : World) (b : Bool) → Quiet lim order w (to w b) (to w b)
-      go w true = (refl, further-refl w (next w) refl refl, refl)
-      go w false = (refl, omega arith, omega arith, refl)
+      go : (s : State) (b : Bool) → Quiet lim order s (to s b) (to s b)
+      go s true = (refl, further-refl s (next s) refl refl, refl)
+      go s false = (refl, omega arith, omega arith, refl)
 
-  own-cells-ok : (a n : ℕ) → Pair lim low (λ s. own-cells (lim s) a n)
-  own-cells-ok a zero = return-ok tt
-  own-cells-ok a (suc n) = cost (clear-ok a (suc n))
+  entry-ok : (n : ℕ) → Pair lim low (λ x. entry (lim x) room n)
+  entry-ok zero = return-ok tt
+  entry-ok (suc n) = end
 
-  hear-ok : (f : Item → Answer) → ((i : Item) → Fair (f i)) → Pair lim low (λ s w. hear (lim s) (w .host .items) f w)
-  hear-ok f fair = quiet lim order low (λ s w. hear (lim s) (w .host .items) f w) (λ w. go w (w .host .items) refl)
+  -- steps that use the host
+  hear-ok : (f : Item → Answer) → ((i : Item) → Fair (f i)) → Pair lim low (λ x s. hear (s .host .items) f s)
+  hear-ok f fair = step (λ s. hear (s .host .items) f s) (λ s. go s (s .host .items) refl)
     where
-      item : (w : World) (i : Item) (is : List Item) → w .host .items ≡ i ∷ is → (a : Answer) → Fair a → Quiet lim order w (taken (lim early) is a w) (taken (lim late) is a w)
-      item w i is e (gives z) h = (refl, record { count = omega arith; marks = ([], sym (append-nil (w .host .marks))); items = (i ∷ [], e) }, refl)
-      item w i is e (faults k) h = (refl, h .0, h .1, refl)
+      item : (s : State) (i : Item) (is : List Item) → s .host .items ≡ i ∷ is → (a : Answer) → Fair a → Quiet lim order s (taken is a s) (taken is a s)
+      item s i is e (gives z) h = (refl, record { count = omega arith; output = further-refl s s refl refl .output; input = (i ∷ [], e); room = refl; renders = refl }, refl)
+      item s i is e (faults k) h = (refl, h .0, h .1, refl)
 
-      go : (w : World) (is : List Item) → w .host .items ≡ is → Quiet lim order w (hear (lim early) is f w) (hear (lim late) is f w)
-      go w [] e = (refl, omega arith, omega arith, refl)
-      go w (i ∷ is) e = item w i is e (f i) (fair i)
+      go : (s : State) (is : List Item) → s .host .items ≡ is → Quiet lim order s (hear is f s) (hear is f s)
+      go s [] e = (refl, omega arith, omega arith, refl)
+      go s (i ∷ is) e = item s i is e (f i) (fair i)
 
-  said-ok : (e : Event) → Pair lim low (λ s. said (lim s) e)
-  said-ok e = quiet lim order low (λ s. said (lim s) e) (λ w. go w (leb (length (w .host .marks ++ w .host .renders e)) (w .host .room)))
+  said-ok : (e : Event) → Pair lim low (λ x. said e)
+  said-ok e = step (said e) (λ s. go s (leb (length (s .host .marks ++ s .host .renders e)) (s .host .room)))
     where
-      next : World → World
-      next w = record { cells = w .cells; top = w .top; count = w .count; host = record { items = w .host .items; marks = w .host .marks ++ w .host .renders e; room = w .host .room; renders = w .host .renders } }
+      next : State → State
+      next s = with-host s (record { items = s .host .items; marks = s .host .marks ++ s .host .renders e; room = s .host .room; renders = s .host .renders })
 
-      to : World → Bool → Outcome Unit
-      to w b = elim b as (λ x. Outcome Unit) [ true ↦ done tt (next w) | false ↦ fault 26 w ]
+      to : State → Bool → Outcome Unit
+      to s b = elim b as (λ x. Outcome Unit) [ true ↦ done tt (next s) | false ↦ fault 26 s ]
 
-      go : (w : World) (b : Bool) → Quiet lim order w (to w b) (to w b)
-      go w true = (refl, record { count = omega arith; marks = (w .host .renders e, refl); items = ([], refl) }, refl)
-      go w false = (refl, omega arith, omega arith, refl)
+      go : (s : State) (b : Bool) → Quiet lim order s (to s b) (to s b)
+      go s true = (refl, record { count = omega arith; output = (s .host .renders e, refl); input = ([], refl); room = refl; renders = refl }, refl)
+      go s false = (refl, omega arith, omega arith, refl)
 
   -- designators and values
   mutual
-    place-ok : (p : Place) (ρ : Env) → Pair lim low (λ s. place (lim s) p ρ)
-    place-ok (Rule.variable i) ρ = cost (return-ok (address-of ρ i))
-    place-ok (Rule.reference i) ρ = cost (cost (return-ok (address-of ρ i)))
-    place-ok (Rule.field p k) ρ = on (place-ok p ρ) (λ a. cost (return-ok (a + k)))
-    place-ok (Rule.element p v n k) ρ =
-        on (place-ok p ρ) (λ a. on (value-ok v ρ) (λ i. cost (indexed-ok a i n k)))
+    place-ok : (p : Place) (ρ : Env) → Pair lim low (λ x. place (lim x) room p ρ)
+    place-ok (Rule.variable i) ρ = cost (return-ok (reference-of ρ i))
+    place-ok (Rule.reference i) ρ = cost (cost (return-ok (reference-of ρ i)))
+    place-ok (Rule.field p k) ρ = on (place-ok p ρ) (λ r. cost (return-ok (beyond r k)))
+    place-ok (Rule.element p v n m) ρ = on (place-ok p ρ) (λ r. on (value-ok v ρ) (λ i. cost (indexed-ok r i n m)))
 
-    value-ok : (v : Value) (ρ : Env) → Pair lim low (λ s. value (lim s) v ρ)
+    value-ok : (v : Value) (ρ : Env) → Pair lim low (λ x. value (lim x) room v ρ)
     value-ok (Rule.literal z) ρ = cost (return-ok z)
-    value-ok (Rule.content p) ρ = on (place-ok p ρ) (λ a. cost (load-ok a))
+    value-ok (Rule.content p) ρ = on (place-ok p ρ) (λ r. cost (load-ok r))
     value-ok (Rule.unary o v) ρ = on (value-ok v ρ) (λ x. cost (settle-ok (unary-of o x) (unary-fair o x)))
     value-ok (Rule.binary o u v) ρ =
         on (value-ok u ρ) (λ x. on (value-ok v ρ) (λ y. cost (settle-ok (binary-of o x y) (binary-fair o x y))))
     value-ok (Rule.store p v) ρ =
-        on (place-ok p ρ) (λ a. on (value-ok v ρ) (λ x. cost (on (save-ok a x) (λ _. return-ok x))))
+        on (place-ok p ρ) (λ r. on (value-ok v ρ) (λ x. cost (on (save-ok r x) (λ _. return-ok x))))
 
   -- calls
-  given-ok : (f : Formal) (x : Argument) (a : ℕ) (ρ : Env) → Pair lim low (λ s. given (lim s) f x a ρ)
-  given-ok f (Rule.value v) a ρ =
-      cost (cost (on (value-ok v ρ)
-      (λ x. cost (on (save-ok a x) (λ _. return-ok (at a))))))
-  given-ok f (Rule.address p) a ρ =
-      cost (cost (on (place-ok p ρ) (λ b. cost (return-ok (at b)))))
-  given-ok f (Rule.copied p n) a ρ =
-      cost (cost (on (place-ok p ρ)
-      (λ b. cost (on (move-ok a b n) (λ _. return-ok (at a))))))
+  given-ok : (a : Argument) (ρ : Env) → Pair lim low (λ x. given (lim x) room a ρ)
+  given-ok (Rule.value v) ρ = cost (cost (on (value-ok v ρ) (λ z. cost (on (new-ok (λ s. z ∷ [])) (λ r. return-ok (names r))))))
+  given-ok (Rule.address p) ρ = cost (cost (on (place-ok p ρ) (λ r. cost (return-ok (names r)))))
+  given-ok (Rule.copied p n) ρ = cost (cost (on (place-ok p ρ) (λ q. cost (on (new-ok (λ s. part s q n)) (λ r. return-ok (names r))))))
 
-  arguments-ok : (fs : List Formal) (xs : List Argument) (a : ℕ) (ρ ρ′ : Env) → Pair lim low (λ s. arguments (lim s) fs xs a ρ ρ′)
-  arguments-ok [] xs a ρ ρ′ = return-ok ρ′
-  arguments-ok (f ∷ fs) [] a ρ ρ′ = return-ok ρ′
-  arguments-ok (f ∷ fs) (x ∷ xs) a ρ ρ′ = on (given-ok f x a ρ) (λ b. arguments-ok fs xs (a + formal-size f) ρ (b ∷ ρ′))
+  arguments-ok : (fs : List Formal) (xs : List Argument) (ρ ρ′ : Env) → Pair lim low (λ x. arguments (lim x) room fs xs ρ ρ′)
+  arguments-ok [] xs ρ ρ′ = return-ok ρ′
+  arguments-ok (f ∷ fs) [] ρ ρ′ = return-ok ρ′
+  arguments-ok (f ∷ fs) (x ∷ xs) ρ ρ′ = on (given-ok x ρ) (λ b. arguments-ok fs xs ρ (b ∷ ρ′))
 
-  module _ (again : Side → Action → Env → ℕ → World → Outcome Unit)
-      (again-ok : (a : Action) (ρ : Env) (free : ℕ) → Pair lim (suc low) (λ s. again s a ρ free)) where
-    called-ok : (b : Binding) (xs : List Argument) (ρ ρ′ : Env) → Pair lim low (λ s. called (lim s) (again s) b xs ρ ρ′)
-    called-ok (at a) xs ρ ρ′ = return-ok tt
+  declare-ok : (ds : Declarations) (ρ : Env) → Pair lim low (λ x. declare ds ρ)
+  declare-ok Rule.none ρ = return-ok ρ
+  declare-ok (Rule.local n ds) ρ = on (new-ok (λ s. replicate n (pos 0))) (λ r. declare-ok ds (names r ∷ ρ))
+  declare-ok (Rule.proc fs b ds) ρ = declare-ok ds (procedure fs b ∷ ρ)
+
+  module _ (again : Side → Action → Env → State → Outcome Unit)
+      (again-ok : (a : Action) (ρ : Env) → Pair lim (suc low) (λ x. again x a ρ)) where
+    called-ok : (b : Binding) (xs : List Argument) (ρ ρ′ : Env) → Pair lim low (λ x. called (lim x) room (again x) b xs ρ ρ′)
+    called-ok (names r) xs ρ ρ′ = return-ok tt
     called-ok (procedure fs b) xs ρ ρ′ =
-        cost (on (take-frame-ok (frame-size fs b)) (λ start.
-        on (arguments-ok fs xs (start + 2) ρ ρ′) (λ inside.
-        charged lim order low (bind lim order (suc low) (again-ok (Rule.inner b) inside (start + 2 + formals-size fs)) (λ _. raise (cost (give-back-ok start)))))))
+        cost (on (enter-ok (frame-size fs b)) (λ o.
+        on (arguments-ok fs xs ρ ρ′) (λ inside.
+        charged lim order room low (bind lim order (suc low) (again-ok (Rule.inner b) inside) (λ _. raise (cost (leave-ok (frame-size fs b) o)))))))
 
-    found-ok : (ρ′ : Env) (i : ℕ) (xs : List Argument) (ρ : Env) → Pair lim low (λ s. found (lim s) (again s) ρ′ i xs ρ)
+    found-ok : (ρ′ : Env) (i : ℕ) (xs : List Argument) (ρ : Env) → Pair lim low (λ x. found (lim x) room (again x) ρ′ i xs ρ)
     found-ok [] i xs ρ = return-ok tt
     found-ok (b ∷ ρ′) zero xs ρ = called-ok b xs ρ (b ∷ ρ′)
     found-ok (b ∷ ρ′) (suc i) xs ρ = found-ok ρ′ i xs ρ
 
-    -- either of two ways
-    either : (v : Bool) {M K : Side → World → Outcome Unit} → Pair lim low M → Pair lim low K → Pair lim low (λ s. elim v as (λ x. World → Outcome Unit) [ true ↦ M s | false ↦ K s ])
+    either : (v : Bool) {M K : Side → State → Outcome Unit} → Pair lim low M → Pair lim low K → Pair lim low (λ x. elim v as (λ _. State → Outcome Unit) [ true ↦ M x | false ↦ K x ])
     either true m k = m
     either false m k = k
 
+    scoped-ok : {M : Side → State → Outcome Unit} → Pair lim low M → Pair lim low (λ x. scoped (M x))
+    scoped-ok {M} m = record { grows = λ s. inner s .grows s; known = λ s. inner s .known s }
+      where
+        shut : State → State → Outcome Unit
+        shut s t = done tt (with-objects t (take (length (s .objects)) (t .objects)))
+
+        inner : (s : State) → Pair lim low (λ x. M x >> shut s)
+        inner s = on m (λ _. step (shut s) (λ t. (refl, further-refl t _ refl refl, refl)))
+
     mutual
-      act-ok : (a : Action) (ρ : Env) (free : ℕ) → Pair lim low (λ s. act (lim s) (again s) a ρ free)
-      act-ok (Rule.drop-place p) ρ free = on (place-ok p ρ) (λ _. end)
-      act-ok (Rule.drop-value v) ρ free = on (value-ok v ρ) (λ _. end)
-      act-ok (Rule.copy p q n) ρ free = on (place-ok p ρ) (λ a. on (place-ok q ρ) (λ b. cost (move-ok a b n)))
-      act-ok (Rule.choose v b) ρ free =
-          on (value-ok v ρ) (λ x. cost (either (is-zero x) (return-ok tt) (block-ok b ρ free)))
-      act-ok (Rule.choose-else v b c) ρ free =
-          on (value-ok v ρ) (λ x. cost (either (is-zero x) (block-ok c ρ free) (on (block-ok b ρ free) (λ _. end))))
-      act-ok (Rule.repeat v b) ρ free =
+      act-ok : (a : Action) (ρ : Env) → Pair lim low (λ x. act (lim x) room (again x) a ρ)
+      act-ok (Rule.drop-place p) ρ = on (place-ok p ρ) (λ _. end)
+      act-ok (Rule.drop-value v) ρ = on (value-ok v ρ) (λ _. end)
+      act-ok (Rule.copy p q n) ρ = on (place-ok p ρ) (λ r. on (place-ok q ρ) (λ t. cost (move-ok r t n)))
+      act-ok (Rule.choose v b) ρ = on (value-ok v ρ) (λ x. cost (either (is-zero x) (return-ok tt) (scoped-ok (block-ok b ρ))))
+      act-ok (Rule.choose-else v b c) ρ =
+          on (value-ok v ρ) (λ x. cost (either (is-zero x) (scoped-ok (block-ok c ρ)) (on (scoped-ok (block-ok b ρ)) (λ _. end))))
+      act-ok (Rule.repeat v b) ρ =
           on (value-ok v ρ) (λ x. cost (either (is-zero x) (return-ok tt)
-          (on (block-ok b ρ free) (λ _. charged lim order low (again-ok (Rule.repeat v b) ρ free)))))
-      act-ok (Rule.read-int p) ρ free = on (place-ok p ρ) (λ a. cost (on (hear-ok as-int int-fair) (save-ok a)))
-      act-ok (Rule.read-bool p) ρ free = on (place-ok p ρ) (λ a. cost (on (hear-ok as-bool bool-fair) (save-ok a)))
-      act-ok (Rule.write-int v) ρ free = on (value-ok v ρ) (λ x. cost (said-ok (wrote-int x)))
-      act-ok (Rule.write-bool v) ρ free = on (value-ok v ρ) (λ x. cost (said-ok (wrote-bool (not (is-zero x)))))
-      act-ok Rule.newline ρ free = cost (said-ok wrote-line)
-      act-ok (Rule.call i xs) ρ free = found-ok ρ i xs ρ
-      act-ok (Rule.inner b) ρ free = block-ok b ρ free
+          (on (scoped-ok (block-ok b ρ)) (λ _. charged lim order room low (again-ok (Rule.repeat v b) ρ)))))
+      act-ok (Rule.read-int p) ρ = on (place-ok p ρ) (λ r. cost (on (hear-ok as-int int-fair) (save-ok r)))
+      act-ok (Rule.read-bool p) ρ = on (place-ok p ρ) (λ r. cost (on (hear-ok as-bool bool-fair) (save-ok r)))
+      act-ok (Rule.write-int v) ρ = on (value-ok v ρ) (λ x. cost (said-ok (wrote-int x)))
+      act-ok (Rule.write-bool v) ρ = on (value-ok v ρ) (λ x. cost (said-ok (wrote-bool (not (is-zero x)))))
+      act-ok Rule.newline ρ = cost (said-ok wrote-line)
+      act-ok (Rule.call i xs) ρ = found-ok ρ i xs ρ
+      act-ok (Rule.inner b) ρ = scoped-ok (block-ok b ρ)
 
-      block-ok : (b : Block) (ρ : Env) (free : ℕ) → Pair lim low (λ s. run-block (lim s) (again s) b ρ free)
-      block-ok (Rule.block ds xs) ρ free = on (own-cells-ok free (own-size ds)) (λ _. all-ok xs (declared (lim early) ds free ρ) (free + own-size ds))
+      all-ok : (xs : Actions) (ρ : Env) → Pair lim low (λ x. act-all (lim x) room (again x) xs ρ)
+      all-ok Rule.nothing ρ = return-ok tt
+      all-ok (Rule._then_ a xs) ρ = on (act-ok a ρ) (λ _. all-ok xs ρ)
 
-      all-ok : (xs : Actions) (ρ : Env) (free : ℕ) → Pair lim low (λ s. act-all (lim s) (again s) xs ρ free)
-      all-ok Rule.nothing ρ free = return-ok tt
-      all-ok (Rule._then_ a xs) ρ free = on (act-ok a ρ free) (λ _. all-ok xs ρ free)
+      block-ok : (b : Block) (ρ : Env) → Pair lim low (λ x. block (lim x) room (again x) b ρ)
+      block-ok (Rule.block ds xs) ρ = on (entry-ok (own-size ds)) (λ _. on (declare-ok ds ρ) (λ inside. all-ok xs inside))
 
 abbrev pub pick : ℕ → ℕ → Side → ℕ
 pick n m early = n
 pick n m late = m
 
--- a rank on each side that exceeds the charges left there
-pub ranked-ok : (t r n m : ℕ) (order : n ≤ m) (low : ℕ) → n < low + r → m < low + t → (a : Action) (ρ : Env) (free : ℕ) → Pair (pick n m) low (λ s. ranked (pick n m s) (pick r t s) a ρ free)
-ranked-ok zero r n m order low p q a ρ free = record { grows = λ w. further-refl w w refl refl; known = λ w l u. absurd (omega arith) }
-ranked-ok (suc t) zero n m order low p q a ρ free =
-    let x : Pair (pick n m) low (λ s. act (pick n m s) (ranked (pick n m s) (pick 0 t s)) a ρ free) =
-    act-ok (pick n m) order low (λ s. ranked (pick n m s) (pick 0 t s)) (ranked-ok t 0 n m order (suc low) (omega arith) (omega arith)) a ρ free in
-    record { grows = λ w. x .grows w; known = λ w l u. absurd (omega arith) }
-ranked-ok (suc t) (suc r) n m order low p q a ρ free =
-    let x : Pair (pick n m) low (λ s. act (pick n m s) (ranked (pick n m s) (pick r t s)) a ρ free) =
-    act-ok (pick n m) order low (λ s. ranked (pick n m s) (pick r t s)) (ranked-ok t r n m order (suc low) (omega arith) (omega arith)) a ρ free in
-    record { grows = λ w. x .grows w; known = λ w l u. x .known w l u }
+module _ (n m : ℕ) (order : n ≤ m) (room : ℕ) where
+  -- a rank on each side that exceeds the charges left there
+  pub ranked-ok : (t r low : ℕ) → n < low + r → m < low + t → (a : Action) (ρ : Env) → Pair (pick n m) low (λ x. ranked (pick n m x) room (pick r t x) a ρ)
+  ranked-ok zero r low p q a ρ = record { grows = λ s. further-refl s s refl refl; known = λ s l u. absurd (omega arith) }
+  ranked-ok (suc t) zero low p q a ρ =
+      let x : Pair (pick n m) low (λ x. act (pick n m x) room (ranked (pick n m x) room (pick 0 t x)) a ρ) =
+      act-ok (pick n m) order room low (λ x. ranked (pick n m x) room (pick 0 t x)) (ranked-ok t 0 (suc low) (omega arith) (omega arith)) a ρ in
+      record { grows = λ s. x .grows s; known = λ s l u. absurd (omega arith) }
+  ranked-ok (suc t) (suc r) low p q a ρ =
+      let x : Pair (pick n m) low (λ x. act (pick n m x) room (ranked (pick n m x) room (pick r t x)) a ρ) =
+      act-ok (pick n m) order room low (λ x. ranked (pick n m x) room (pick r t x)) (ranked-ok t r (suc low) (omega arith) (omega arith)) a ρ in
+      record { grows = λ s. x .grows s; known = λ s l u. x .known s l u }
 
-pub program-ok : (n m : ℕ) → n ≤ m → (b : Block) → Pair (pick n m) 0 (λ s. program (pick n m s) b)
-program-ok n m order b =
-    charged (pick n m) order 0 (bind (pick n m) order 1 (take-frame-ok (pick n m) order 1 (frame-size [] b)) (λ start.
-    charged (pick n m) order 1 (bind (pick n m) order 2 (body start) (λ _. charge-last (pick n m) order 2))))
-  where
-    body : (start : ℕ) → Pair (pick n m) 2 (λ s. ranked (pick n m s) (suc (pick n m s)) (Rule.inner b) [] (start + 2))
-    body start =
-        let x : Pair (pick n m) 2 (λ s. ranked (pick n m s) (pick (suc n) (suc m) s) (Rule.inner b) [] (start + 2)) = ranked-ok (suc m) (suc n) n m order 2 (omega arith) (omega arith) (Rule.inner b) [] (start + 2) in
-        record { grows = λ w. x .grows w; known = λ w l u. x .known w l u }
+  -- ranks r and t, from the limits on
+  pub program-ok : (r t : ℕ) → n ≤ r → m ≤ t → (b : Block) → Pair (pick n m) 0 (λ x. program (pick n m x) room (pick r t x) b)
+  program-ok r t p q b =
+      charged lim order room 0 (bind lim order 1 (enter-ok lim order room 1 (frame-size [] b)) (λ _.
+      charged lim order room 1 (bind lim order 2
+      (block-ok lim order room 2 (λ x. ranked (lim x) room (pick r t x)) (ranked-ok t r 3 (omega arith) (omega arith)) b [])
+      (λ _. charge-last lim order room 2))))
+    where
+      lim : Side → ℕ
+      lim = pick n m

@@ -9,7 +9,7 @@ use Rattle.machine.specs.declared.instruction.Instruction.the-variants.{St, Cop
 use Rattle.meaning.specs.Rule.{Place, Value, Argument, Formal, Action, Actions, Declarations, Block}
 use Rattle.meaning.specs.Rule as Rule
 use Rattle.meaning.specs.Evaluation.{formal-size, formals-size, own-size, frame-size}
-use Rattle.meaning.specs.Code.{Entry, Scope, seen, place, value, argument, arguments, called, zeroing, declared, formals, action, actions, block, procs-action, procs-actions, procs-declared, procs-block, place-length, value-length, own-length, argument-length, arguments-length, action-length, actions-length, block-length, action-procs, actions-procs, declared-procs, block-procs}
+use Rattle.meaning.specs.Code.{Entry, Scope, entry-of, place, value, argument, arguments, called, zeroing, declared, formals, action, actions, block, procs-action, procs-actions, procs-declared, procs-block, place-length, value-length, own-length, argument-length, arguments-length, action-length, actions-length, block-length, action-procs, actions-procs, declared-procs, block-procs}
 use Rattle.meaning.specs.Code as Code
 use Rattle.meaning.specs.Sound.{Slot, holds, refers, takes, missing, slot, slots, formal-slot, formal-slots, FitsArguments, FitsCall, FitsAction, FitsActions, FitsDeclarations, FitsBlock}
 
@@ -86,7 +86,7 @@ called-long fs fs′ n l t xs Γ σ e h =
     headed _ (arguments-length xs + 1)
     (joined (arguments fs xs 2 Γ) (Enter l t ∷ []) (arguments-length xs) 1 (arguments-long fs xs 2 Γ σ (subst (λ (y : List Formal). FitsArguments y xs σ) e h)) refl)
 
-call-long : (Γ′ : Scope) (σ′ : List Slot) (i : ℕ) (xs : List Argument) (Γ : Scope) (σ : List Slot) → Shape Γ′ σ′ → FitsCall (slot σ′ i) xs σ → length (called (seen Γ′ i) xs Γ) ≡ 1 + (arguments-length xs + 1)
+call-long : (Γ′ : Scope) (σ′ : List Slot) (i : ℕ) (xs : List Argument) (Γ : Scope) (σ : List Slot) → Shape Γ′ σ′ → FitsCall (slot σ′ i) xs σ → length (called (entry-of Γ′ i) xs Γ) ≡ 1 + (arguments-length xs + 1)
 call-long [] [] i xs Γ σ h f = absurd f
 call-long [] (x ∷ σ′) i xs Γ σ h f = absurd h
 call-long (e ∷ Γ′) [] i xs Γ σ h f = absurd h

@@ -1,4 +1,4 @@
--- In every life a run that has a source agrees with the evaluation.
+-- In every life a run that has a source agrees with the meaning of its rule.
 use Prim.Native.Nat.{ℕ, _+_, _≤_}
 use mathlib.Core.Path.{_≡_, refl, sym, ap, _∙_, subst}
 use mathlib.Core.List.{List, [], _∷_}
@@ -10,18 +10,20 @@ use lib.Dec.{T, leb, eqb, leb→le}
 use Rattle.std.specs.declared.option.Option.{Option}
 use Rattle.std.specs.declared.option.Option.the-variants.{Some, None}
 use Rattle.machine.specs.declared.instruction.Instruction.{Instruction}
+use Rattle.tiny.specs.Tree.{BlockTree}
 use Rattle.meaning.specs.Rule.{Block}
-use Rattle.machine.specs.Host.{Host}
-use Rattle.meaning.specs.Evaluation.{Outcome, done, cut, fault, evaluated}
+use Rattle.meaning.specs.Meaning.{meaning}
 use Rattle.machine.specs.Machine.{Standing, Run, going, finished, failed, run, opened}
 use Rattle.meaning.specs.Code.{program}
+use Rattle.meaning.specs.Stages.{Judged, refused, one-of, accepted, judged}
+use Rattle.meaning.specs.Sound.{Sound}
 use Rattle.meaning.specs.Agreement.{Agrees}
-use Rattle.meaning.specs.Laws.{Spent, Fault-known}
-use Rattle.meaning.specs.Lives.{Source, Tie, Engine, no-run, runs, most-cells, most-count, open-cause, is-going, step-cause, Filled, Life, made, loaded, load-refused, opens, open-refused, steps, step-refused, Alike, Agreed, Rules-sound, Lives-agree, Budgets-free, Runs-bounded, Steps-spend, after-open, after-step, Load-carries, Open-carries, Step-carries}
-use Rattle.meaning.proofs.Agree.{agreement}
+use Rattle.meaning.specs.Laws.{Spent}
+use Rattle.meaning.specs.Lives.{Source, Tie, Engine, no-run, runs, most-cells, most-count, open-cause, is-going, step-cause, Filled, Life, made, loaded, load-refused, opens, open-refused, steps, step-refused, Agreed, Rules-sound, Lives-agree, passed, rule-of-tree, Judged-rules-sound, Budgets-free, Runs-bounded, Steps-spend, after-open, after-step, Load-carries, Open-carries, Step-carries}
+use Rattle.meaning.proofs.Agreement.{meaning-agrees}
+use Rattle.meaning.proofs.Accepted.{accepted-sound}
 use Rattle.meaning.proofs.Runs.{runs-add, budget-spent, by-count}
 use Rattle.meaning.proofs.Keeps.{memory-kept}
-use Rattle.meaning.proofs.Evaluations.{faults-known}
 
 open-small : (c : List Instruction) (m : ℕ) → open-cause c m ≡ None → m ≤ most-cells
 open-small [] m e = let z : _≡_ {A = ℕ} 0 1 = cc in absurd (omega arith)
@@ -85,54 +87,9 @@ module _ (rule-of : Source → Option Block) where
       ap (λ (q : Run). run (t .code) (q .count) (opened (t .cells) (t .host))) (x .is)
       ∙ by-count (t .code) (x .taken) (opened (t .cells) (t .host)) refl ∙ sym (x .is)
 
-module _ (b : Block) (r : Run) where
-  not-finished : r .standing ≡ going → r .standing ≡ finished → ⊥
-  not-finished e f = let z : _≡_ {A = ℕ} 0 1 = cc in omega arith
-
-  not-failed : (k : ℕ) → r .standing ≡ going → r .standing ≡ failed k → ⊥
-  not-failed k e f = let z : _≡_ {A = ℕ} 0 1 = cc in omega arith
-
-  finished-well : (k : ℕ) → r .standing ≡ finished → r .standing ≡ failed k → ⊥
-  finished-well k e f = let z : _≡_ {A = ℕ} 0 1 = cc in omega arith
-
-  one-fault : (k j : ℕ) → r .standing ≡ failed k → r .standing ≡ failed j → j ≡ k
-  one-fault k j e f = cc
-
-  alike : (o : Outcome Unit) → Fault-known o → Agrees b o r → Alike b o r
-  alike (done tt w) known (e, same) = record {
-    goes-on = ((λ f. not-finished f e), (λ x. absurd x));
-    finishes = ((λ f. tt), (λ x. e));
-    fails = λ k. ((λ f. finished-well k e f), (λ x. absurd x));
-    output = ap (λ (h : Host). h .marks) (same .host);
-    input = ap (λ (h : Host). h .items) (same .host);
-    variables = same .variables;
-    count = same .count;
-    lawful = λ k f. absurd (finished-well k e f);
-  }
-  alike (cut w) known (e, same) = record {
-    goes-on = ((λ f. tt), (λ x. e));
-    finishes = ((λ f. not-finished e f), (λ x. absurd x));
-    fails = λ k. ((λ f. not-failed k e f), (λ x. absurd x));
-    output = ap (λ (h : Host). h .marks) (same .host);
-    input = ap (λ (h : Host). h .items) (same .host);
-    variables = same .variables;
-    count = same .count;
-    lawful = λ k f. absurd (not-failed k e f);
-  }
-  alike (fault g w) known (e, same) = record {
-    goes-on = ((λ f. not-failed g f e), (λ x. absurd x));
-    finishes = ((λ f. finished-well g f e), (λ x. absurd x));
-    fails = λ k. ((λ f. one-fault g k e f), (λ x. e ∙ ap failed (sym x)));
-    output = ap (λ (h : Host). h .marks) (same .host);
-    input = ap (λ (h : Host). h .items) (same .host);
-    variables = same .variables;
-    count = same .count;
-    lawful = λ k f. subst (λ (j : ℕ). (21 ≤ j) × (j ≤ 27)) (sym (one-fault g k e f)) known;
-  }
-
 module _ (rule-of : Source → Option Block) (sound : Rules-sound rule-of) where
   run-agrees : (t : Tie) (r : Run) → Traced rule-of t r → Agreed rule-of (runs t r)
-  run-agrees t r x s from = (b, rule, alike b r (evaluated (r .count) b (t .cells) (t .host)) (faults-known b (t .cells) (t .host) (r .count)) agrees)
+  run-agrees t r x s from = (b, rule, agrees)
     where
       filled : Filled rule-of (Some s) (t .code)
       filled = subst (λ (o : Option Source). Filled rule-of o (t .code)) from (x .filled)
@@ -146,9 +103,9 @@ module _ (rule-of : Source → Option Block) (sound : Rules-sound rule-of) where
       at : run (program b) (r .count) (opened (t .cells) (t .host)) ≡ r
       at = ap (λ (c : List Instruction). run c (r .count) (opened (t .cells) (t .host))) (sym (filled .2)) ∙ there rule-of t r x
 
-      agrees : Agrees b (evaluated (r .count) b (t .cells) (t .host)) r
-      agrees = subst (λ (q : Run). Agrees b (evaluated (r .count) b (t .cells) (t .host)) q) at
-          (agreement b (sound s b rule) (t .cells) (omega (arith, x .small)) (t .host) (r .count))
+      agrees : Agrees b (meaning (r .count) b (length (t .cells)) (t .host)) r
+      agrees = subst (λ (q : Run). Agrees b (meaning (r .count) b (length (t .cells)) (t .host)) q) at
+          (meaning-agrees b (sound s b rule) (t .cells) (omega (arith, x .small)) (t .host) (r .count))
 
   agreed : (e : Engine) → Kept rule-of e → Agreed rule-of e
   agreed no-run x = tt
@@ -156,6 +113,18 @@ module _ (rule-of : Source → Option Block) (sound : Rules-sound rule-of) where
 
 pub lives-agree : Lives-agree
 lives-agree rule-of sound e life = agreed rule-of sound e (kept rule-of life)
+
+passed-sound : (t : BlockTree) (b : Block) (j : Judged) → judged t ≡ j → passed j ≡ Some b → Sound b
+passed-sound t b (refused x) e q = let z : _≡_ {A = ℕ} 0 1 = cc in absurd (omega arith)
+passed-sound t b (one-of xs) e q = let z : _≡_ {A = ℕ} 0 1 = cc in absurd (omega arith)
+passed-sound t b (accepted c) e q = let same : c ≡ b = cc in accepted-sound t b (e ∙ ap accepted same)
+
+read-sound : (o : Option BlockTree) (b : Block) → rule-of-tree o ≡ Some b → Sound b
+read-sound None b q = let z : _≡_ {A = ℕ} 0 1 = cc in absurd (omega arith)
+read-sound (Some t) b q = passed-sound t b (judged t) refl q
+
+pub judged-rules-sound : Judged-rules-sound
+judged-rules-sound tree-of s b q = read-sound (tree-of s) b q
 
 pub budgets-free : Budgets-free
 budgets-free rule-of t r q a b e =

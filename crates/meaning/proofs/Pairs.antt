@@ -13,8 +13,8 @@ use Rattle.meaning.specs.Objects.{State, Reference, contents}
 use Rattle.meaning.specs.Objects as Objects
 use Rattle.meaning.specs.Meaning.{variables}
 use Rattle.meaning.specs.Meaning as Meaning
-use Rattle.meaning.specs.Agreement.{own-cells}
-use Rattle.meaning.specs.MeaningAgreement.{Like}
+use Rattle.meaning.specs.Sizes.{own-cells}
+use Rattle.meaning.specs.Halves.{Like}
 use Rattle.meaning.proofs.Stretches.{Stretch, Layout, Store, Grown, start, size, layout, layout-length, store-cut, flat}
 
 -- both end in the same way, with Q if they are done

@@ -15,7 +15,7 @@ use Rattle.machine.specs.Host.{Host, Item, Event}
 use Rattle.meaning.specs.Evaluation.{World, Outcome, done, cut, fault, _>>=_, _>>_, charge, return, save, move, clear, hear, taken, said, own-cells, zeroed, moved}
 use Rattle.machine.specs.Machine.{Machine, Effect, goes, fails, fetched, after, effect, within, on, on-cells, on-host, jump, one, get, say, heard, settled}
 use Rattle.meaning.specs.Code.{zeroing, own-length}
-use Rattle.meaning.specs.Agreement as Agreement
+use Rattle.meaning.specs.Sizes as Sizes
 use Rattle.meaning.proofs.Cells.{Private, Free, mem-set, mem-zero, mem-move}
 use Rattle.meaning.proofs.Tracks.{Setting, tick, mach, now, Ends, charged, fault-here}
 use Rattle.meaning.proofs.Scopes.{Sits}
@@ -44,7 +44,7 @@ module _ (g : Setting) (B : List ℕ) (L : Private) (T low : ℕ) where
         (λ l r. subst (λ q. S g B L T low ops′ q (record { cells = moved (w .cells) a b s; top = w .top; host = w .host; count = suc (w .count) })) (sym e)
         (advance g B L T low ops pc w st (Copy s) l r B L T ops′ (suc pc) (moved (st .cells) a b s) (moved (w .cells) a b s) (w .top) (w .host)
         (copy-ok (now g B L T low ops pc w st) a b s ops′ o (in-memory g B L T low a s (st .cells) (w .cells) (st .mem) h) (in-memory g B L T low b s (st .cells) (w .cells) (st .mem) k))
-        (mem-move (Agreement.own-cells (g .b)) L T (st .cells) (w .cells) (st .mem) a b s h k fa fb) (st .top-is)))
+        (mem-move (Sizes.own-cells (g .b)) L T (st .cells) (w .cells) (st .mem) a b s h k fa fb) (st .top-is)))
 
     pub jump-row : {A : Type 0} (Q : A → World → Type 0) (k : World → Outcome A) (t : ℕ) → fetched (g .code) pc ≡ Some (Jmp t) → S g B L T low ops pc w →
         (S g B L T (suc low) ops t (tick w) → Ends g (k (tick w)) Q) → Ends g ((charge (g .n) >> k) w) Q
@@ -68,16 +68,13 @@ module _ (g : Setting) (B : List ℕ) (L : Private) (T low : ℕ) where
     pub said-row : (e : Event) (i : Instruction) (ops′ : List ℤ) (pc′ : ℕ) → pc′ ≡ suc pc → ((st : S g B L T low ops pc w) → effect i (now g B L T low ops pc w st) ≡ say e (now g B L T low ops pc w st) ops′) → fetched (g .code) pc ≡ Some i →
         S g B L T low ops pc w → Ends g ((charge (g .n) >> said (g .n) e) w) (λ _. S g B L T low ops′ pc′)
     said-row e i ops′ pc′ q s f st =
-        charged g B L T low ops pc w st (λ _. S g B L T low ops′ pc′) (said (g .n) e) i f (λ l r. go l (leb (length more) (w .host .room)) (r ∙ ap (λ (x : Effect). after x (w .count) m) (s st)))
+        charged g B L T low ops pc w st (λ _. S g B L T low ops′ pc′) (said (g .n) e) i f (λ l r. go l (leb (length (h .marks)) (w .host .room)) (r ∙ ap (λ (x : Effect). after x (w .count) m) (s st)))
       where
         m : Machine
         m = mach w ops B pc (st .cells)
 
-        more : List ℕ
-        more = w .host .marks ++ w .host .renders e
-
         h : Host
-        h = record { items = w .host .items; marks = more; room = w .host .room; renders = w .host .renders }
+        h = record { items = w .host .items; marks = w .host .marks ++ w .host .renders e; room = w .host .room; renders = w .host .renders }
 
         w′ : World
         w′ = record { cells = w .cells; top = w .top; count = suc (w .count); host = h }
@@ -111,7 +108,7 @@ module _ (g : Setting) (B : List ℕ) (L : Private) (T low : ℕ) where
             subst (λ x. S g B L T low ops′ x w′) (sym q) (record {
               cells = set (st .cells) a z;
               is = r ∙ ap (λ (x : Effect). after x (w .count) m) (within-ok a 0 (st .cells) (λ b. goes (on-host m ops′ (set (st .cells) b z) h′)) (in-memory g B L T low a 1 (st .cells) (w .cells) (st .mem) h));
-              mem = mem-set (Agreement.own-cells (g .b)) L T (st .cells) (w .cells) (st .mem) a z (omega arith) (fr a (omega arith) (omega arith));
+              mem = mem-set (Sizes.own-cells (g .b)) L T (st .cells) (w .cells) (st .mem) a z (omega arith) (fr a (omega arith) (omega arith));
               top-is = st .top-is;
               low-is = omega (arith, st .low-is);
               bound = l;
@@ -140,7 +137,7 @@ module _ (g : Setting) (B : List ℕ) (L : Private) (T low : ℕ) where
         (advance g B L T low ops pc w st (Zero l k (suc s)) i r B L T ops (suc pc) (zeroed (st .cells) a (suc s)) (zeroed (w .cells) a (suc s)) (w .top) (w .host)
         (ap (λ (x : ℕ). within (pos x) (suc s) (st .cells) (λ b. goes (on-cells m ops (zeroed (st .cells) b (suc s))))) (sym e)
         ∙ within-ok a s (st .cells) (λ b. goes (on-cells m ops (zeroed (st .cells) b (suc s)))) (in-memory g B L T low a (suc s) (st .cells) (w .cells) (st .mem) h))
-        (mem-zero (Agreement.own-cells (g .b)) L T (st .cells) (w .cells) (st .mem) a (suc s) h f) (st .top-is)))
+        (mem-zero (Sizes.own-cells (g .b)) L T (st .cells) (w .cells) (st .mem) a (suc s) h f) (st .top-is)))
       where
         m : Machine
         m = mach w ops B pc (st .cells)

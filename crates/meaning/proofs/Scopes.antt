@@ -12,7 +12,7 @@ use Rattle.meaning.specs.Rule.{Block, Formal}
 use Rattle.meaning.specs.Evaluation.{Binding, Env, frame-size, formals-size, address-of}
 use Rattle.meaning.specs.Evaluation as Evaluation
 use Rattle.machine.specs.Machine.{fetched}
-use Rattle.meaning.specs.Code.{Entry, Scope, seen, block, procs-block, block-length, formals}
+use Rattle.meaning.specs.Code.{Entry, Scope, entry-of, block, procs-block, block-length, formals}
 use Rattle.meaning.specs.Code as Code
 use Rattle.meaning.specs.Sound.{Slot, holds, refers, takes, missing, slot, FitsBlock, block-need, formal-slots}
 use Rattle.meaning.proofs.Cells.{Private, Kept, Free, Ext}
@@ -120,7 +120,7 @@ module _ (C : List Instruction) where
     pub record Found (Γ : Scope) (ρ : Env) (i : ℕ) (x : Slot) : Type 0 where
       pub l : ℕ
       pub k : ℕ
-      pub seen-is : seen Γ i ≡ Code.at l k
+      pub seen-is : entry-of Γ i ≡ Code.at l k
       pub cell : RelCell l k (address-of ρ i) x
 
     no-proc : (Γ : Scope) (σ : List Slot) (fs : List Formal) (sz lv t : ℕ) (fs′ : List Formal) (b : Block) (x : Slot) → IsCell x → RelProc Γ σ fs sz lv t fs′ b x → ⊥

@@ -8,7 +8,7 @@ use native.Mathlib.Numerals.{one-add}
 use Rattle.tiny.specs.Tree.{Name}
 use Rattle.meaning.specs.Rule.{Formal}
 use Rattle.meaning.specs.Rule as Rule
-use Rattle.meaning.specs.Types.{Ty, size, Meaning, variable, reference, type-name, procedure, unsound, Scope, same-name, meaning-of, number-of, counts}
+use Rattle.meaning.specs.Types.{Ty, size, Meaning, variable, reference, type-name, procedure, Scope, same-name, meaning-of, number-of, counts}
 use Rattle.meaning.specs.Sound.{Slot, holds, refers, takes, missing, slot}
 
 abbrev pub slotted : Meaning → List Slot → List Slot

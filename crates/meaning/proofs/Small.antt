@@ -1,249 +1,24 @@
 -- What the stage of sizes lets pass is small.
-use Prim.Native.Nat.{ℕ, _+_, _*_, _≤_}
-use mathlib.Core.List.{List, [], _∷_, _++_}
+use Prim.Native.Nat.{ℕ, _+_}
+use mathlib.Core.List.{List, [], _++_}
 use mathlib.Core.Bool.{Bool, true, false}
-use native.Mathlib.Omega.{arith}
-use lib.Dec.{T, ltb, nltb→le}
-use lib.IntN.{ℤ, pos, negsuc}
-use Rattle.tiny.specs.Tree.{Name, TypeTree, Fields, Expression, Formals, Statement, Statements, DeclarationTrees, BlockTree}
+use lib.Dec.{T}
+use lib.IntN.{ℤ, pos}
+use Rattle.tiny.specs.Tree.{Name, Formals, Statement, Statements, DeclarationTrees, BlockTree}
 use Rattle.tiny.specs.Tree as Tree
-use Rattle.meaning.specs.Rule.{Place, Value, Argument, Formal, Block}
+use Rattle.meaning.specs.Rule.{Place, Value, Block}
 use Rattle.meaning.specs.Rule as Rule
-use Rattle.meaning.specs.Types.{Ty, int, bool, array, struct, Members, no-member, member, size, members-size, fits, scalar, Meaning, variable, reference, type-name, procedure, Scope, same-name, meaning-of, number-of, Typed, when, as-type, sized, Membered, with-member, as-struct, type-of, members-of, Form, place, value, copies, Formed, whenf, on-place, read-of, named-as, Signature, arithmetic, logic, relation, allowed, signature, result, operand, element-of, selected, field-of, form-of}
+use Rattle.meaning.specs.Types.{Ty, int, bool, array, struct, fits, Meaning, variable, reference, type-name, procedure, Scope, meaning-of, number-of, Typed, type-of, Form, place, value, copies, Formed, read-of, form-of}
 use Rattle.meaning.specs.Types as Types
-use Rattle.meaning.specs.Statements.{Acted, Blocked, Listed, Declares, Given, argument, aggregate, given-one, join, given, forms-of, whena, whenb, test, dropped, onto, by-scalar, calling, called, meant, declare, passed, still, seen-by, with-formal, signature-from, formals-from, plain, signature-of, procedure-scope, inside, scope-of, local, unseen, proc, then, with-actions, action-of, actions-of, declarations-of, block-of}
+use Rattle.meaning.specs.Statements.{Acted, Blocked, Listed, Declares, Given, given, forms-of, when-expression, when-block, test, dropped, onto, by-scalar, calling, called, meant, declare, passed, still, seen-by, with-formal, signature-from, formals-from, plain, signature-of, procedure-scope, inside, scope-of, local, unseen, proc, then, with-actions, action-of, actions-of, declarations-of, block-of}
 use Rattle.meaning.specs.Statements as Statements
-use Rattle.meaning.specs.Stages.{larger, large-typed, large-type, large-fields, large-formals, brace, large-frame, large-statement, large-statements, large-declarations, large-block, large-program}
+use Rattle.meaning.specs.Stages.{large-type, large-formals, brace, large-frame, large-statement, large-statements, large-declarations, large-block, large-program}
 use Rattle.meaning.specs.Evaluation.{frame-size}
-use Rattle.meaning.specs.Small.{WrittenType, WrittenFields, WrittenExpression, WrittenAll, WrittenFormals, WrittenStatement, WrittenStatements, WrittenDeclarations, Written, SmallPlace, SmallValue, SmallArgument, SmallArguments, SmallFormals, SmallAction, SmallActions, SmallDeclarations, SmallBlock, Small}
-use Rattle.meaning.proofs.Nil.{Nil, nil-left, nil-right, untested, either}
-
-pub not-larger : (n at : ℕ) → Nil (larger n at) → n ≤ 65536
-not-larger n at h = nltb→le 65536 n (untested (ltb 65536 n) _ [] [] h .0)
+use Rattle.meaning.specs.Small.{WrittenFormals, WrittenStatement, WrittenStatements, WrittenDeclarations, Written, SmallPlace, SmallValue, SmallAction, SmallActions, SmallDeclarations, SmallBlock, Small}
+use Rattle.meaning.proofs.Nil.{Nil, nil-left, nil-right, either}
+use Rattle.meaning.proofs.SmallForms.{SmallTy, small-size, SmallMeaning, SmallScope, small-append, small-meaning, SmallTyped, type-small, SmallForm, SmallFormed, small-read, form-small, SmallGiven, AllSmall, forms-small, given-small, not-larger}
 
 module _ (P : ℤ → Bool) (zero-is : T (P (pos 0))) (one-is : T (P (pos 1))) where
-  abbrev mutual
-    pub SmallTy : Ty → Type 0
-    SmallTy int = Unit {0}
-    SmallTy bool = Unit {0}
-    SmallTy (array t n) = SmallTy t × T (P (pos n)) × (n * size t ≤ 65536)
-    SmallTy (struct ms) = SmallMembers ms × (members-size ms ≤ 65536)
-
-    pub SmallMembers : Members → Type 0
-    SmallMembers no-member = Unit {0}
-    SmallMembers (member x t ms) = SmallTy t × SmallMembers ms
-
-  abbrev pub SmallTys : List Ty → Type 0
-  SmallTys [] = Unit {0}
-  SmallTys (t ∷ ts) = SmallTy t × SmallTys ts
-
-  pub small-size : (t : Ty) → SmallTy t → size t ≤ 65536
-  small-size int h = omega arith
-  small-size bool h = omega arith
-  small-size (array t n) h = h .2
-  small-size (struct ms) h = h .1
-
-  abbrev pub SmallMeaning : Meaning → Type 0
-  SmallMeaning (variable t) = SmallTy t
-  SmallMeaning (reference t) = SmallTy t
-  SmallMeaning (type-name t) = SmallTy t
-  SmallMeaning (procedure fs ts) = SmallFormals P fs × SmallTys ts
-  SmallMeaning Meaning.unsound = Unit {0}
-
-  abbrev pub SmallScope : Scope → Type 0
-  SmallScope [] = Unit {0}
-  SmallScope (d ∷ Γ) = SmallMeaning (d .meaning) × SmallScope Γ
-
-  pub small-append : (Δ Γ : Scope) → SmallScope Δ → SmallScope Γ → SmallScope (Δ ++ Γ)
-  small-append [] Γ h k = k
-  small-append (d ∷ Δ) Γ h k = (h .0, small-append Δ Γ (h .1) k)
-
-  pub small-meaning : (x : Name) (Γ : Scope) → SmallScope Γ → SmallMeaning (meaning-of x Γ)
-  small-meaning x [] h = tt
-  small-meaning x (d ∷ Γ) h = either SmallMeaning (same-name x (d .name)) _ _ (λ _. h .0) (small-meaning x Γ (h .1))
-
-  -- Types.
-
-  abbrev pub SmallTyped : Typed → Type 0
-  SmallTyped (Types.Typed.sound t) = SmallTy t
-  SmallTyped (Types.Typed.broken n) = Unit {0}
-  SmallTyped Types.Typed.unsound = Unit {0}
-
-  abbrev SmallMembered : Membered → Type 0
-  SmallMembered (Types.Membered.sound ms) = SmallMembers ms
-  SmallMembered Types.Membered.unsound = Unit {0}
-
-  small-as-type : (m : Meaning) → SmallMeaning m → SmallTyped (as-type m)
-  small-as-type (variable t) h = tt
-  small-as-type (reference t) h = tt
-  small-as-type (type-name t) h = h
-  small-as-type (procedure fs ts) h = tt
-  small-as-type Meaning.unsound h = tt
-
-  small-array : (x : Typed) (n : ℤ) (at : ℕ) → SmallTyped x → T (P n) → Nil (large-typed (when x (sized n)) at) → SmallTyped (when x (sized n))
-  small-array (Types.Typed.sound t) (pos n) at h p k = (h, p, not-larger (n * size t) at k)
-  small-array (Types.Typed.sound t) (negsuc n) at h p k = tt
-  small-array (Types.Typed.broken m) n at h p k = tt
-  small-array Types.Typed.unsound n at h p k = tt
-
-  small-struct : (ms : Membered) (at : ℕ) → SmallMembered ms → Nil (large-typed (as-struct ms) at) → SmallTyped (as-struct ms)
-  small-struct (Types.Membered.sound ms) at h k = (h, not-larger (members-size ms) at k)
-  small-struct Types.Membered.unsound at h k = tt
-
-  small-member : (x : Name) (t : Typed) (ms : Membered) → SmallTyped t → SmallMembered ms → SmallMembered (with-member x t ms)
-  small-member x (Types.Typed.sound t) (Types.Membered.sound ms) h k = (h, k)
-  small-member x (Types.Typed.sound t) Types.Membered.unsound h k = tt
-  small-member x (Types.Typed.broken n) ms h k = tt
-  small-member x Types.Typed.unsound ms h k = tt
-
-  mutual
-    pub type-small : (t : TypeTree) (Γ : Scope) → WrittenType P t → SmallScope Γ → Nil (large-type t Γ) → SmallTyped (type-of t Γ)
-    type-small (Tree.int-type at) Γ w g h = tt
-    type-small (Tree.bool-type at) Γ w g h = tt
-    type-small (Tree.named at x) Γ w g h = small-as-type (meaning-of x Γ) (small-meaning x Γ g)
-    type-small (Tree.array at t n) Γ w g h =
-        small-array (type-of t Γ) n at (type-small t Γ (w .0) g (nil-left _ _ h)) (w .1) (nil-right (large-type t Γ) _ h)
-    type-small (Tree.struct at fs) Γ w g h = small-struct (members-of fs Γ) at (members-small fs Γ w g (nil-left _ _ h)) (nil-right (large-fields fs Γ) _ h)
-
-    members-small : (fs : Fields) (Γ : Scope) → WrittenFields P fs → SmallScope Γ → Nil (large-fields fs Γ) → SmallMembered (members-of fs Γ)
-    members-small Tree.no-field Γ w g h = tt
-    members-small (Tree.field-of t at x fs) Γ w g h =
-        small-member x (type-of t Γ) (members-of fs Γ) (type-small t Γ (w .0) g (nil-left _ _ h)) (members-small fs Γ (w .1) g (nil-right (large-type t Γ) _ h))
-
-  -- Expressions.
-
-  abbrev pub SmallForm : Form → Type 0
-  SmallForm (place p) = SmallPlace P p
-  SmallForm (value v) = SmallValue P v
-  SmallForm (copies p q n) = SmallPlace P p × SmallPlace P q × (n ≤ 65536)
-
-  abbrev pub SmallFormed : Formed → Type 0
-  SmallFormed (Types.Formed.sound f t) = SmallForm f × SmallTy t
-  SmallFormed (Types.Formed.broken n) = Unit {0}
-  SmallFormed Types.Formed.unsound = Unit {0}
-
-  pub small-read : (f : Form) → SmallForm f → SmallValue P (read-of f)
-  small-read (place p) h = h
-  small-read (value v) h = h
-  small-read (copies p q n) h = zero-is
-
-  small-when : (x : Formed) (k : Form → Ty → Formed) → SmallFormed x → ((f : Form) (t : Ty) → SmallForm f → SmallTy t → SmallFormed (k f t)) → SmallFormed (whenf x k)
-  small-when (Types.Formed.sound f t) k h g = g f t (h .0) (h .1)
-  small-when (Types.Formed.broken n) k h g = tt
-  small-when Types.Formed.unsound k h g = tt
-
-  small-place : (f : Form) (k : Place → Formed) → SmallForm f → ((p : Place) → SmallPlace P p → SmallFormed (k p)) → SmallFormed (on-place f k)
-  small-place (place p) k h g = g p h
-  small-place (value v) k h g = tt
-  small-place (copies p q n) k h g = tt
-
-  small-name : (i : ℕ) (m : Meaning) → SmallMeaning m → SmallFormed (named-as i m)
-  small-name i (variable t) h = (tt, h)
-  small-name i (reference t) h = (tt, h)
-  small-name i (type-name t) h = tt
-  small-name i (procedure fs ts) h = tt
-  small-name i Meaning.unsound h = tt
-
-  small-result : (s : Signature) → SmallTy (result s)
-  small-result arithmetic = tt
-  small-result logic = tt
-  small-result relation = tt
-
-  small-element : (t : Ty) (f : Form) (v : Value) (b : Bool) → SmallForm f → SmallTy t → SmallValue P v → SmallFormed (element-of t f v b)
-  small-element int f v b h s k = tt
-  small-element bool f v b h s k = tt
-  small-element (array t n) f v b h s k =
-      either SmallFormed b _ _ (λ _. small-place f _ h (λ p i. ((i, k, s .1, small-size t (s .0), s .2), s .0))) tt
-  small-element (struct ms) f v b h s k = tt
-
-  small-selected : (ms : Members) (x : Name) (f : Form) (k : ℕ) → SmallForm f → SmallMembers ms → k + members-size ms ≤ 65536 → SmallFormed (selected ms x f k)
-  small-selected no-member x f k h s n = tt
-  small-selected (member y t ms) x f k h s n =
-      either SmallFormed (same-name x y) _ _ (λ _. small-place f _ h (λ p i. ((i, omega arith), s .0)))
-      (small-selected ms x f (k + size t) h (s .1) (omega arith))
-
-  small-field : (t : Ty) (x : Name) (f : Form) → SmallForm f → SmallTy t → SmallFormed (field-of t x f)
-  small-field int x f h s = tt
-  small-field bool x f h s = tt
-  small-field (array t n) x f h s = tt
-  small-field (struct ms) x f h s = small-selected ms x f 0 h (s .0) (let n = s .1 in omega arith)
-
-  pub form-small : (e : Expression) (Γ : Scope) → WrittenExpression P e → SmallScope Γ → SmallFormed (form-of e Γ)
-  form-small (Tree.number at z) Γ w g = (w, tt)
-  form-small (Tree.truth at b) Γ w g = (either (λ z. T (P z)) b _ _ (λ _. one-is) zero-is, tt)
-  form-small (Tree.name at x) Γ w g = small-name (number-of x Γ) (meaning-of x Γ) (small-meaning x Γ g)
-  form-small (Tree.assign at d e) Γ w g =
-      small-when (form-of d Γ) _ (form-small d Γ (w .0) g) (λ f t a s. small-when (form-of e Γ) _ (form-small e Γ (w .1) g) (λ h u b r.
-      either SmallFormed (fits t u) _ _ (λ _. small-place f _ a (λ p i.
-      either SmallFormed (scalar t) _ _ (λ _. ((i, small-read h b), s)) (small-place h _ b (λ q j. ((i, j, small-size t s), s))))) tt))
-  form-small (Tree.binary at o d e) Γ w g =
-      small-when (form-of d Γ) _ (form-small d Γ (w .0) g) (λ f t a s. small-when (form-of e Γ) _ (form-small e Γ (w .1) g) (λ h u b r.
-      either SmallFormed (allowed (signature o) t u) _ _ (λ _. ((small-read f a, small-read h b), small-result (signature o))) tt))
-  form-small (Tree.unary at o e) Γ w g =
-      small-when (form-of e Γ) _ (form-small e Γ w g) (λ f t a s. either SmallFormed (fits (operand o) t) _ _ (λ _. (small-read f a, s)) tt)
-  form-small (Tree.index at d e) Γ w g =
-      small-when (form-of d Γ) _ (form-small d Γ (w .0) g) (λ f t a s. small-when (form-of e Γ) _ (form-small e Γ (w .1) g) (λ h u b r.
-      small-element t f (read-of h) (fits int u) a s (small-read h b)))
-  form-small (Tree.select at d x) Γ w g = small-when (form-of d Γ) _ (form-small d Γ w g) (λ f t a s. small-field t x f a s)
-
-  -- Arguments.
-
-  abbrev pub SmallGiven : Given → Type 0
-  SmallGiven (Statements.Given.sound xs) = SmallArguments P xs
-  SmallGiven (Statements.Given.broken n) = Unit {0}
-  SmallGiven Statements.Given.unsound = Unit {0}
-
-  small-argument : (f : Formal) (g : Form) (a : Argument) → SmallForm g → SmallArgument P a → SmallGiven (argument f g a)
-  small-argument (Rule.by-value s) g a h k = (k, tt)
-  small-argument (Rule.by-reference s) (place p) a h k = (h, tt)
-  small-argument (Rule.by-reference s) (value v) a h k = tt
-  small-argument (Rule.by-reference s) (copies p q n) a h k = tt
-
-  small-aggregate : (f : Formal) (g : Form) (t : Ty) → SmallForm g → SmallTy t → SmallGiven (aggregate f g t)
-  small-aggregate f (place p) t h s = small-argument f (place p) _ h (h, small-size t s)
-  small-aggregate f (value v) t h s = tt
-  small-aggregate f (copies p q n) t h s = tt
-
-  small-one : (f : Formal) (t : Ty) (g : Form) (u : Ty) → SmallForm g → SmallTy t → SmallGiven (given-one f t g u)
-  small-one f t g u h s =
-      either SmallGiven (fits t u) _ _ (λ _. either SmallGiven (scalar t) _ _ (λ _. small-argument f g _ h (small-read g h)) (small-aggregate f g t h s)) tt
-
-  small-arguments : (xs ys : List Argument) → SmallArguments P xs → SmallArguments P ys → SmallArguments P (xs ++ ys)
-  small-arguments [] ys h k = k
-  small-arguments (x ∷ xs) ys h k = (h .0, small-arguments xs ys (h .1) k)
-
-  small-join : (x y : Given) → SmallGiven x → SmallGiven y → SmallGiven (join x y)
-  small-join (Statements.Given.sound xs) (Statements.Given.sound ys) h k = small-arguments xs ys h k
-  small-join (Statements.Given.sound xs) (Statements.Given.broken n) h k = tt
-  small-join (Statements.Given.sound xs) Statements.Given.unsound h k = tt
-  small-join (Statements.Given.broken m) (Statements.Given.sound ys) h k = tt
-  small-join (Statements.Given.broken m) (Statements.Given.broken n) h k =
-      either SmallGiven _ (Statements.Given.broken n) (Statements.Given.broken m) (λ _. tt) tt
-  small-join (Statements.Given.broken m) Statements.Given.unsound h k = tt
-  small-join Statements.Given.unsound y h k = tt
-
-  abbrev pub AllSmall : List Formed → Type 0
-  AllSmall [] = Unit {0}
-  AllSmall (g ∷ gs) = SmallFormed g × AllSmall gs
-
-  pub forms-small : (es : List Expression) (Γ : Scope) → WrittenAll P es → SmallScope Γ → AllSmall (forms-of es Γ)
-  forms-small [] Γ w g = tt
-  forms-small (e ∷ es) Γ w g = (form-small e Γ (w .0) g, forms-small es Γ (w .1) g)
-
-  pub given-small : (fs : List Formal) (ts : List Ty) (gs : List Formed) → SmallTys ts → AllSmall gs → SmallGiven (given fs ts gs)
-  given-small [] ts [] s h = tt
-  given-small [] ts (Types.Formed.sound g u ∷ gs) s h = small-join (Statements.Given.broken 13) (given [] ts gs) tt (given-small [] ts gs s (h .1))
-  given-small [] ts (Types.Formed.broken n ∷ gs) s h = tt
-  given-small [] ts (Types.Formed.unsound ∷ gs) s h = tt
-  given-small (f ∷ fs) [] gs s h = tt
-  given-small (f ∷ fs) (t ∷ ts) [] s h = tt
-  given-small (f ∷ fs) (t ∷ ts) (Types.Formed.sound g u ∷ gs) s h =
-      small-join (given-one f t g u) (given fs ts gs) (small-one f t g u (h .0 .0) (s .0)) (given-small fs ts gs (s .1) (h .1))
-  given-small (f ∷ fs) (t ∷ ts) (Types.Formed.broken n ∷ gs) s h = tt
-  given-small (f ∷ fs) (t ∷ ts) (Types.Formed.unsound ∷ gs) s h = tt
-
-  -- Statements.
-
   abbrev pub SmallActed : Acted → Type 0
   SmallActed (Statements.Acted.sound a) = SmallAction P a
   SmallActed (Statements.Acted.broken n) = Unit {0}
@@ -261,24 +36,24 @@ module _ (P : ℤ → Bool) (zero-is : T (P (pos 0))) (one-is : T (P (pos 1))) w
   SmallBlocked (Statements.Blocked.sound b) = SmallBlock P b
   SmallBlocked Statements.Blocked.unsound = Unit {0}
 
-  on-form : (x : Formed) (k : Form → Ty → Acted) → SmallFormed x → ((f : Form) (t : Ty) → SmallForm f → SmallActed (k f t)) → SmallActed (whena x k)
+  on-form : (x : Formed) (k : Form → Ty → Acted) → SmallFormed P zero-is one-is x → ((f : Form) (t : Ty) → SmallForm P zero-is one-is f → SmallActed (k f t)) → SmallActed (when-expression x k)
   on-form (Types.Formed.sound f t) k h g = g f t (h .0)
   on-form (Types.Formed.broken n) k h g = tt
   on-form Types.Formed.unsound k h g = tt
 
-  on-block : (x : Blocked) (k : Block → Acted) → SmallBlocked x → ((b : Block) → SmallBlock P b → SmallActed (k b)) → SmallActed (whenb x k)
+  on-block : (x : Blocked) (k : Block → Acted) → SmallBlocked x → ((b : Block) → SmallBlock P b → SmallActed (k b)) → SmallActed (when-block x k)
   on-block (Statements.Blocked.sound b) k h g = g b h
   on-block Statements.Blocked.unsound k h g = tt
 
-  on-test : (x : Formed) (k : Value → Acted) → SmallFormed x → ((v : Value) → SmallValue P v → SmallActed (k v)) → SmallActed (test x k)
-  on-test x k h g = on-form x _ h (λ f t i. either SmallActed (fits bool t) _ _ (λ _. g (read-of f) (small-read f i)) tt)
+  on-test : (x : Formed) (k : Value → Acted) → SmallFormed P zero-is one-is x → ((v : Value) → SmallValue P v → SmallActed (k v)) → SmallActed (test x k)
+  on-test x k h g = on-form x _ h (λ f t i. either SmallActed (fits bool t) _ _ (λ _. g (read-of f) (small-read P zero-is one-is f i)) tt)
 
-  small-dropped : (f : Form) → SmallForm f → SmallAction P (dropped f)
+  small-dropped : (f : Form) → SmallForm P zero-is one-is f → SmallAction P (dropped f)
   small-dropped (place p) h = h
   small-dropped (value v) h = h
   small-dropped (copies p q n) h = h
 
-  small-onto : (f : Form) (k : Place → Acted) → SmallForm f → ((p : Place) → SmallPlace P p → SmallActed (k p)) → SmallActed (onto f k)
+  small-onto : (f : Form) (k : Place → Acted) → SmallForm P zero-is one-is f → ((p : Place) → SmallPlace P p → SmallActed (k p)) → SmallActed (onto f k)
   small-onto (place p) k h g = g p h
   small-onto (value v) k h g = tt
   small-onto (copies p q n) k h g = tt
@@ -289,16 +64,16 @@ module _ (P : ℤ → Bool) (zero-is : T (P (pos 0))) (one-is : T (P (pos 1))) w
   small-by-scalar (array t n) a b h k = tt
   small-by-scalar (struct ms) a b h k = tt
 
-  small-calling : (i : ℕ) (x : Given) → SmallGiven x → SmallActed (calling i x)
+  small-calling : (i : ℕ) (x : Given) → SmallGiven P zero-is one-is x → SmallActed (calling i x)
   small-calling i (Statements.Given.sound xs) h = h
   small-calling i (Statements.Given.broken n) h = tt
   small-calling i Statements.Given.unsound h = tt
 
-  small-called : (i : ℕ) (m : Meaning) (gs : List Formed) → SmallMeaning m → AllSmall gs → SmallActed (called i m gs)
+  small-called : (i : ℕ) (m : Meaning) (gs : List Formed) → SmallMeaning P zero-is one-is m → AllSmall P zero-is one-is gs → SmallActed (called i m gs)
   small-called i (variable t) gs s h = tt
   small-called i (reference t) gs s h = tt
   small-called i (type-name t) gs s h = tt
-  small-called i (procedure fs ts) gs s h = small-calling i (given fs ts gs) (given-small fs ts gs (s .1) h)
+  small-called i (procedure fs ts) gs s h = small-calling i (given fs ts gs) (given-small P zero-is one-is fs ts gs (s .1) h)
   small-called i Meaning.unsound gs s h = tt
 
   small-then : (a : Acted) (xs : Listed) → SmallActed a → SmallListed xs → SmallListed (then a xs)
@@ -314,23 +89,23 @@ module _ (P : ℤ → Bool) (zero-is : T (P (pos 0))) (one-is : T (P (pos 1))) w
 
   -- Declarations.
 
-  small-meant : (t : Typed) (k : Ty → Meaning) → SmallTyped t → ((u : Ty) → SmallTy u → SmallMeaning (k u)) → SmallMeaning (meant t k)
+  small-meant : (t : Typed) (k : Ty → Meaning) → SmallTyped P zero-is one-is t → ((u : Ty) → SmallTy P zero-is one-is u → SmallMeaning P zero-is one-is (k u)) → SmallMeaning P zero-is one-is (meant t k)
   small-meant (Types.Typed.sound t) k h g = g t h
   small-meant (Types.Typed.broken n) k h g = tt
   small-meant Types.Typed.unsound k h g = tt
 
-  small-passed : (r : Bool) (t : Ty) → SmallTy t → SmallMeaning (passed r t)
+  small-passed : (r : Bool) (t : Ty) → SmallTy P zero-is one-is t → SmallMeaning P zero-is one-is (passed r t)
   small-passed true t h = h
   small-passed false t h = h
 
-  small-still : (m : Meaning) (t : Typed) → SmallMeaning m → SmallMeaning (still m t)
+  small-still : (m : Meaning) (t : Typed) → SmallMeaning P zero-is one-is m → SmallMeaning P zero-is one-is (still m t)
   small-still m (Types.Typed.sound t) h = h
   small-still m (Types.Typed.broken n) h = tt
   small-still m Types.Typed.unsound h = tt
 
-  small-with-formal : (r : Bool) (t : Typed) (m : Meaning) → SmallTyped t → SmallMeaning m → SmallMeaning (with-formal r t m)
-  small-with-formal true (Types.Typed.sound t) (procedure fs ts) h k = ((small-size t h, k .0), (h, k .1))
-  small-with-formal false (Types.Typed.sound t) (procedure fs ts) h k = ((small-size t h, k .0), (h, k .1))
+  small-with-formal : (r : Bool) (t : Typed) (m : Meaning) → SmallTyped P zero-is one-is t → SmallMeaning P zero-is one-is m → SmallMeaning P zero-is one-is (with-formal r t m)
+  small-with-formal true (Types.Typed.sound t) (procedure fs ts) h k = ((small-size P zero-is one-is t h, k .0), (h, k .1))
+  small-with-formal false (Types.Typed.sound t) (procedure fs ts) h k = ((small-size P zero-is one-is t h, k .0), (h, k .1))
   small-with-formal r (Types.Typed.sound t) (variable u) h k = tt
   small-with-formal r (Types.Typed.sound t) (reference u) h k = tt
   small-with-formal r (Types.Typed.sound t) (type-name u) h k = tt
@@ -338,19 +113,19 @@ module _ (P : ℤ → Bool) (zero-is : T (P (pos 0))) (one-is : T (P (pos 1))) w
   small-with-formal r (Types.Typed.broken n) m h k = tt
   small-with-formal r Types.Typed.unsound m h k = tt
 
-  small-formals : (fs : Formals) (f : Name) (m : Meaning) (Δ Γ : Scope) → WrittenFormals P fs → SmallMeaning m → SmallScope Δ → SmallScope Γ →
-      Nil (large-formals fs f m Δ Γ) → SmallMeaning (signature-from fs f m Δ Γ) × SmallScope (formals-from fs f m Δ Γ)
+  small-formals : (fs : Formals) (f : Name) (m : Meaning) (Δ Γ : Scope) → WrittenFormals P fs → SmallMeaning P zero-is one-is m → SmallScope P zero-is one-is Δ → SmallScope P zero-is one-is Γ →
+      Nil (large-formals fs f m Δ Γ) → SmallMeaning P zero-is one-is (signature-from fs f m Δ Γ) × SmallScope P zero-is one-is (formals-from fs f m Δ Γ)
   small-formals Tree.no-formal f m Δ Γ w s d g h = ((tt, tt), d)
   small-formals (Tree.formal t r at x fs) f m Δ Γ w s d g h =
       let seen : Scope = seen-by f m Δ Γ in
       let typed : Typed = type-of t seen in
-      let i : SmallTyped typed = type-small t seen (w .0) (small-append Δ (declare f m Γ) d (s, g)) (nil-left _ _ h) in
+      let i : SmallTyped P zero-is one-is typed = type-small P zero-is one-is t seen (w .0) (small-append P zero-is one-is Δ (declare f m Γ) d (s, g)) (nil-left _ _ h) in
       let rest = small-formals fs f (still m typed) (declare x (meant typed (passed r)) Δ) Γ (w .1) (small-still m typed s)
       (small-meant typed (passed r) i (small-passed r), d) g (nil-right (large-type t seen) _ h) in
       (small-with-formal r typed _ i (rest .0), rest .1)
 
-  small-local : (t : Typed) (ds : Declares) → SmallTyped t → SmallDeclares ds → SmallDeclares (local t ds)
-  small-local (Types.Typed.sound t) (Statements.Declares.sound ds) h k = (small-size t h, k)
+  small-local : (t : Typed) (ds : Declares) → SmallTyped P zero-is one-is t → SmallDeclares ds → SmallDeclares (local t ds)
+  small-local (Types.Typed.sound t) (Statements.Declares.sound ds) h k = (small-size P zero-is one-is t h, k)
   small-local (Types.Typed.sound t) Statements.Declares.unsound h k = tt
   small-local (Types.Typed.broken n) ds h k = tt
   small-local Types.Typed.unsound ds h k = tt
@@ -360,7 +135,7 @@ module _ (P : ℤ → Bool) (zero-is : T (P (pos 0))) (one-is : T (P (pos 1))) w
   small-unseen (Types.Typed.broken n) ds k = tt
   small-unseen Types.Typed.unsound ds k = tt
 
-  small-proc : (m : Meaning) (b : Blocked) (ds : Declares) (at : ℕ) → SmallMeaning m → SmallBlocked b → Nil (large-frame m b at) → SmallDeclares ds → SmallDeclares (proc m b ds)
+  small-proc : (m : Meaning) (b : Blocked) (ds : Declares) (at : ℕ) → SmallMeaning P zero-is one-is m → SmallBlocked b → Nil (large-frame m b at) → SmallDeclares ds → SmallDeclares (proc m b ds)
   small-proc (procedure fs ts) (Statements.Blocked.sound b) (Statements.Declares.sound ds) at s h n k = (s .0, not-larger (frame-size fs b) at n, h, k)
   small-proc (procedure fs ts) (Statements.Blocked.sound b) Statements.Declares.unsound at s h n k = tt
   small-proc (procedure fs ts) Statements.Blocked.unsound ds at s h n k = tt
@@ -370,42 +145,42 @@ module _ (P : ℤ → Bool) (zero-is : T (P (pos 0))) (one-is : T (P (pos 1))) w
   small-proc Meaning.unsound b ds at s h n k = tt
 
   mutual
-    action-small : (s : Statement) (Γ : Scope) → WrittenStatement P s → SmallScope Γ → Nil (large-statement s Γ) → SmallActed (action-of s Γ)
-    action-small (Tree.eval at e) Γ w g h = on-form (form-of e Γ) _ (form-small e Γ w g) (λ f t i. small-dropped f i)
+    action-small : (s : Statement) (Γ : Scope) → WrittenStatement P s → SmallScope P zero-is one-is Γ → Nil (large-statement s Γ) → SmallActed (action-of s Γ)
+    action-small (Tree.eval at e) Γ w g h = on-form (form-of e Γ) _ (form-small P zero-is one-is e Γ w g) (λ f t i. small-dropped f i)
     action-small (Tree.if-then at e b) Γ w g h =
         on-block (block-of b Γ) _ (block-small b Γ (w .1) g h) (λ c i.
-        on-test (form-of e Γ) (λ v. Statements.Acted.sound (Rule.choose v c)) (form-small e Γ (w .0) g) (λ v j. (j, i)))
+        on-test (form-of e Γ) (λ v. Statements.Acted.sound (Rule.choose v c)) (form-small P zero-is one-is e Γ (w .0) g) (λ v j. (j, i)))
     action-small (Tree.if-else at e b c) Γ w g h =
         on-block (block-of b Γ) _ (block-small b Γ (w .1) g (nil-left _ _ h)) (λ b′ i.
         on-block (block-of c Γ) _ (block-small c Γ (w .2) g (nil-right (large-block b Γ) _ h)) (λ c′ k.
-        on-test (form-of e Γ) (λ v. Statements.Acted.sound (Rule.choose-else v b′ c′)) (form-small e Γ (w .0) g) (λ v j. (j, i, k))))
+        on-test (form-of e Γ) (λ v. Statements.Acted.sound (Rule.choose-else v b′ c′)) (form-small P zero-is one-is e Γ (w .0) g) (λ v j. (j, i, k))))
     action-small (Tree.while at e b) Γ w g h =
         on-block (block-of b Γ) _ (block-small b Γ (w .1) g h) (λ c i.
-        on-test (form-of e Γ) (λ v. Statements.Acted.sound (Rule.repeat v c)) (form-small e Γ (w .0) g) (λ v j. (j, i)))
+        on-test (form-of e Γ) (λ v. Statements.Acted.sound (Rule.repeat v c)) (form-small P zero-is one-is e Γ (w .0) g) (λ v j. (j, i)))
     action-small (Tree.read at e) Γ w g h =
-        on-form (form-of e Γ) _ (form-small e Γ w g) (λ f t i. small-by-scalar t _ _ (small-onto f _ i (λ p j. j)) (small-onto f _ i (λ p j. j)))
+        on-form (form-of e Γ) _ (form-small P zero-is one-is e Γ w g) (λ f t i. small-by-scalar t _ _ (small-onto f _ i (λ p j. j)) (small-onto f _ i (λ p j. j)))
     action-small (Tree.write at e) Γ w g h =
-        on-form (form-of e Γ) _ (form-small e Γ w g) (λ f t i. small-by-scalar t _ _ (small-read f i) (small-read f i))
+        on-form (form-of e Γ) _ (form-small P zero-is one-is e Γ w g) (λ f t i. small-by-scalar t _ _ (small-read P zero-is one-is f i) (small-read P zero-is one-is f i))
     action-small (Tree.nl at) Γ w g h = tt
     action-small (Tree.call at here x es) Γ w g h =
-        small-called (number-of x Γ) (meaning-of x Γ) (forms-of es Γ) (small-meaning x Γ g) (forms-small es Γ w g)
+        small-called (number-of x Γ) (meaning-of x Γ) (forms-of es Γ) (small-meaning P zero-is one-is x Γ g) (forms-small P zero-is one-is es Γ w g)
     action-small (Tree.compound b) Γ w g h = on-block (block-of b Γ) _ (block-small b Γ w g h) (λ c i. i)
 
-    actions-small : (ss : Statements) (Γ : Scope) → WrittenStatements P ss → SmallScope Γ → Nil (large-statements ss Γ) → SmallListed (actions-of ss Γ)
+    actions-small : (ss : Statements) (Γ : Scope) → WrittenStatements P ss → SmallScope P zero-is one-is Γ → Nil (large-statements ss Γ) → SmallListed (actions-of ss Γ)
     actions-small Tree.no-statement Γ w g h = tt
     actions-small (Tree.statement s ss) Γ w g h =
         small-then (action-of s Γ) (actions-of ss Γ) (action-small s Γ (w .0) g (nil-left _ _ h)) (actions-small ss Γ (w .1) g (nil-right (large-statement s Γ) _ h))
 
-    declarations-small : (ds : DeclarationTrees) (Γ : Scope) → WrittenDeclarations P ds → SmallScope Γ → Nil (large-declarations ds Γ) →
-        SmallDeclares (declarations-of ds Γ) × SmallScope (scope-of ds Γ)
+    declarations-small : (ds : DeclarationTrees) (Γ : Scope) → WrittenDeclarations P ds → SmallScope P zero-is one-is Γ → Nil (large-declarations ds Γ) →
+        SmallDeclares (declarations-of ds Γ) × SmallScope P zero-is one-is (scope-of ds Γ)
     declarations-small Tree.no-declaration Γ w g h = (tt, g)
     declarations-small (Tree.variable t at x ds) Γ w g h =
-        let i = type-small t Γ (w .0) g (nil-left _ _ h) in
+        let i = type-small P zero-is one-is t Γ (w .0) g (nil-left _ _ h) in
         let rest = declarations-small ds (declare x (meant (type-of t Γ) variable) Γ) (w .1) (small-meant (type-of t Γ) variable i (λ u j. j), g)
         (nil-right (large-type t Γ) _ h) in
         (small-local (type-of t Γ) _ i (rest .0), rest .1)
     declarations-small (Tree.type-name t at x ds) Γ w g h =
-        let i = type-small t Γ (w .0) g (nil-left _ _ h) in
+        let i = type-small P zero-is one-is t Γ (w .0) g (nil-left _ _ h) in
         let rest = declarations-small ds (declare x (meant (type-of t Γ) type-name) Γ) (w .1) (small-meant (type-of t Γ) type-name i (λ u j. j), g)
         (nil-right (large-type t Γ) _ h) in
         (small-unseen (type-of t Γ) _ (rest .0), rest .1)
@@ -414,11 +189,11 @@ module _ (P : ℤ → Bool) (zero-is : T (P (pos 0))) (one-is : T (P (pos 1))) w
         let h₁ = nil-right (large-formals fs x plain [] Γ) (large-block b (inside x fs Γ) ++ (frame ++ large-declarations ds (procedure-scope x fs Γ))) h in
         let h₂ = nil-right (large-block b (inside x fs Γ)) (frame ++ large-declarations ds (procedure-scope x fs Γ)) h₁ in
         let f = small-formals fs x plain [] Γ (w .0) (tt, tt) tt g (nil-left _ _ h) in
-        let i = block-small b (inside x fs Γ) (w .1) (small-append (formals-from fs x plain [] Γ) (procedure-scope x fs Γ) (f .1) (f .0, g)) (nil-left _ _ h₁) in
+        let i = block-small b (inside x fs Γ) (w .1) (small-append P zero-is one-is (formals-from fs x plain [] Γ) (procedure-scope x fs Γ) (f .1) (f .0, g)) (nil-left _ _ h₁) in
         let rest = declarations-small ds (procedure-scope x fs Γ) (w .2) (f .0, g) (nil-right frame _ h₂) in
         (small-proc (signature-of x fs Γ) (block-of b (inside x fs Γ)) _ (brace b) (f .0) i (nil-left frame (large-declarations ds (procedure-scope x fs Γ)) h₂) (rest .0), rest .1)
 
-    pub block-small : (t : BlockTree) (Γ : Scope) → Written P t → SmallScope Γ → Nil (large-block t Γ) → SmallBlocked (block-of t Γ)
+    pub block-small : (t : BlockTree) (Γ : Scope) → Written P t → SmallScope P zero-is one-is Γ → Nil (large-block t Γ) → SmallBlocked (block-of t Γ)
     block-small (Tree.block at ds ss) Γ w g h =
         let d = declarations-small ds Γ (w .0) g (nil-left _ _ h) in
         small-with-actions (declarations-of ds Γ) (actions-of ss (scope-of ds Γ)) (d .0)

@@ -73,13 +73,10 @@ module _ (b : Block) (n M : ℕ) (P : Layout) (U : ℕ) where
   with-host h s w p = record { store = p .store; used = p .used; top = p .top; host = refl; count = p .count; long = p .long; fits = p .fits; first = p .first; reach = p .reach }
 
   said-ok : (e : Event) (s : State) (w : World) → Here s w → Alike b (λ _ t _ v. Here t v) (Objects.said e s) (Evaluation.said n e w)
-  said-ok e s w p = subst (λ (h : Host). Alike b (λ _ t _ v. Here t v) (Objects.said e s) (Evaluation.said n e (hosted w h))) (sym (p .host)) (go (leb (length more) (s .host .room)))
+  said-ok e s w p = subst (λ (h : Host). Alike b (λ _ t _ v. Here t v) (Objects.said e s) (Evaluation.said n e (hosted w h))) (sym (p .host)) (go (leb (length (h .marks)) (s .host .room)))
     where
-      more : List ℕ
-      more = s .host .marks ++ s .host .renders e
-
       h : Host
-      h = record { items = s .host .items; marks = more; room = s .host .room; renders = s .host .renders }
+      h = record { items = s .host .items; marks = s .host .marks ++ s .host .renders e; room = s .host .room; renders = s .host .renders }
 
       go : (v : Bool) → Alike b (λ _ t _ v. Here t v) (elim v as (λ x. Objects.Outcome Unit) [ true ↦ Objects.done tt (Objects.with-host s h) | false ↦ Objects.fault 26 s ])
           (elim v as (λ x. Evaluation.Outcome Unit) [ true ↦ Evaluation.done tt (hosted w h) | false ↦ Evaluation.fault 26 (hosted w (s .host)) ])

@@ -2,7 +2,7 @@
 use Prim.Native.Nat.{ℕ, zero, suc, _+_, _-_, _≤_, _<_}
 use mathlib.Core.Path.{_≡_, refl, sym, ap, _∙_, subst}
 use mathlib.Core.List.{List}
-use mathlib.Core.Bool.{Bool, true, false, cond, not}
+use mathlib.Core.Bool.{Bool, true, false, cond}
 use native.Mathlib.Omega.{arith}
 use native.Mathlib.Nat.{add-suc, add-zero}
 use lib.IntN.{ℤ}
@@ -12,8 +12,9 @@ use Rattle.std.specs.declared.option.Option.the-variants.{Some}
 use Rattle.machine.specs.declared.instruction.Instruction.{Instruction}
 use Rattle.meaning.specs.Rule.{Block}
 use Rattle.meaning.specs.Evaluation.{World, Outcome, done, cut, fault, _>>=_, _>>_, charge}
-use Rattle.machine.specs.Machine.{Machine, fails, Standing, going, failed, Run, fetched, attempted, after, one-more, effect, made}
-use Rattle.meaning.specs.Agreement.{Agrees, own-cells}
+use Rattle.machine.specs.Machine.{Machine, fails, Standing, going, failed, Run, fetched, attempted, after, one-more, effect}
+use Rattle.meaning.specs.Halves.{Follows}
+use Rattle.meaning.specs.Sizes.{own-cells}
 use Rattle.meaning.proofs.Cells.{Private, Mem, mem-outer}
 
 -- a run of the code, and where the evaluation is cut off
@@ -53,8 +54,8 @@ module _ (g : Setting) where
 
   abbrev pub Ends : {A : Type 0} → Outcome A → (A → World → Type 0) → Type 0
   Ends (done a w) Q = Q a w
-  Ends (cut w) Q = Agrees (g .b) (cut w) (g .R (g .n))
-  Ends (fault f w) Q = Agrees (g .b) (fault f w) (g .R (g .n))
+  Ends (cut w) Q = Follows (g .b) (cut w) (g .R (g .n))
+  Ends (fault f w) Q = Follows (g .b) (fault f w) (g .R (g .n))
 
   pub ends-bind : {A B : Type 0} (P : A → World → Type 0) (Q : B → World → Type 0) (m : World → Outcome A) (k : A → World → Outcome B) (w : World) →
       Ends (m w) P → ((a : A) (v : World) → P a v → Ends (k a v) Q) → Ends ((m >>= k) w) Q
@@ -92,12 +93,12 @@ module _ (g : Setting) where
     abbrev pub now : Machine
     now = mach w ops B pc (st .cells)
 
-    pub cut-here : w .count ≡ g .n → Agrees (g .b) (cut w) (g .R (g .n))
+    pub cut-here : w .count ≡ g .n → Follows (g .b) (cut w) (g .R (g .n))
     cut-here e =
         let r : g .R (g .n) ≡ running w ops B pc (st .cells) = ap (g .R) (sym e) ∙ st .is in
         rw r (refl, record { count = refl; host = refl; variables = mem-outer (own-cells (g .b)) L top (st .cells) (w .cells) (st .mem) })
 
-    pub fault-here : (f : ℕ) → w .count < g .n → g .R (suc (w .count)) ≡ after (fails f) (w .count) now → Agrees (g .b) (fault f (tick w)) (g .R (g .n))
+    pub fault-here : (f : ℕ) → w .count < g .n → g .R (suc (w .count)) ≡ after (fails f) (w .count) now → Follows (g .b) (fault f (tick w)) (g .R (g .n))
     fault-here f l e =
         let r : g .R (g .n) ≡ after (fails f) (w .count) now = stays-to (suc (w .count)) (failed f) (λ r. refl) (ap (λ (r : Run). r .standing) e) l ∙ e in
         rw r (refl, record { count = refl; host = refl; variables = mem-outer (own-cells (g .b)) L top (st .cells) (w .cells) (st .mem) })

@@ -9,6 +9,7 @@ use Rattle.std.specs.declared.option.Option.the-variants.{Some, None}
 use Rattle.machine.specs.declared.instruction.Instruction.{Instruction}
 use Rattle.meaning.specs.Rule.{Block}
 use Rattle.machine.specs.Host.{Host}
+use Rattle.meaning.specs.Laws.{Spent}
 use Rattle.meaning.specs.Lives.{Source, Engine, no-run, runs, Filled, Life, Agreed, Rules-sound, after-open, after-step}
 
 abbrev pub after-load : Option ℕ → Engine → Engine
@@ -19,6 +20,12 @@ after-load (Some cause) e = e
 abbrev pub Own : Engine → List Instruction → List ℤ → Host → Type 0
 Own no-run c cs h = Unit {0}
 Own (runs t r) c cs h = (t .code ≡ c) × (r .machine .cells ≡ cs) × (r .machine .host ≡ h)
+
+-- from one engine to the other, k instructions of its run: all of them, or fewer and the run has ended
+abbrev pub Spends : ℕ → Engine → Engine → Type 0
+Spends k no-run e = ⊥
+Spends k (runs t r) no-run = ⊥
+Spends k (runs t r) (runs u q) = (u ≡ t) × Spent k r q
 
 -- each life that leads to an e that is shown leads on to `next e`, which is left, and the agreement holds there
 abbrev pub Leads : (Source → Option Block) → (Engine → Type 0) → (Engine → Type 0) → (Engine → Engine) → Type 0
@@ -34,7 +41,9 @@ module _ (shown left : Engine → Type 0) where
   Open-clause answer c cs h = (rule-of : Source → Option Block) → Rules-sound rule-of → (source : Option Source) → Filled rule-of source c →
       Leads rule-of shown (λ e. left e × (answer ≡ None → Own e c cs h)) (after-open answer (record { code = c; source = source; cells = cs; host = h }))
 
-  -- over code c, with memory and host cs and h at the call, cs′ and h′ at the return
+  -- over code c, with memory and host cs and h at the call, cs′ and h′ at the return; one that is not refused spends its budget
   abbrev pub Step-clause : Option ℕ → ℕ → List Instruction → List ℤ → Host → List ℤ → Host → Type 0
-  Step-clause answer k c cs h cs′ h′ = (rule-of : Source → Option Block) → Rules-sound rule-of →
-      Leads rule-of (λ e. shown e × (answer ≡ None → Own e c cs h)) (λ e. left e × (answer ≡ None → Own e c cs′ h′)) (after-step answer k)
+  Step-clause answer k c cs h cs′ h′ =
+      ((rule-of : Source → Option Block) → Rules-sound rule-of →
+      Leads rule-of (λ e. shown e × (answer ≡ None → Own e c cs h)) (λ e. left e × (answer ≡ None → Own e c cs′ h′)) (after-step answer k))
+      × ((e : Engine) → shown e → answer ≡ None → Spends k e (after-step answer k e))

@@ -1,8 +1,6 @@
--- The code of a rule.
-use Prim.Native.Nat.{ℕ, zero, suc, _+_, _*_}
+-- The code of a rule: what each row emits after its parts, then STOP, then the procedures in the order of their words.
+use Prim.Native.Nat.{ℕ, zero, suc, _+_}
 use mathlib.Core.List.{List, [], _∷_, _++_}
-use lib.IntN.{ℤ, pos}
-use lib.ListN.{length}
 use Rattle.machine.specs.declared.instruction.Instruction.{Instruction}
 use Rattle.machine.specs.declared.instruction.Instruction.the-variants.{Lit, Var, Off, Ld, St, Stk, Copy, Index, Add, Sub, Mul, Div, Mod, Neg, Not, And, Or, Lt, Le, Gt, Ge, Eq, Ne, Jmp, Jf, Geti, Getb, Puti, Putb, Nl, Zero, Frame, Enter, Leave, Dup, Pop, Stop}
 use Rattle.meaning.specs.Rule.{Unary, Binary, Place, Value, Argument, Formal, Action, Actions, Declarations, Block}
@@ -21,10 +19,11 @@ abbrev pub var : Entry → Instruction
 var (at l k) = Var l k
 var (procedure fs n l t) = Var 0 0
 
-abbrev pub seen : Scope → ℕ → Entry
-seen [] i = at 0 0
-seen (e ∷ Γ) zero = e
-seen (e ∷ Γ) (suc i) = seen Γ i
+-- what name i stands for
+abbrev pub entry-of : Scope → ℕ → Entry
+entry-of [] i = at 0 0
+entry-of (e ∷ Γ) zero = e
+entry-of (e ∷ Γ) (suc i) = entry-of Γ i
 
 abbrev pub unary : Unary → Instruction
 unary Rule.neg = Neg
@@ -47,8 +46,8 @@ binary Rule.ne = Ne
 
 abbrev mutual
   pub place : Place → Scope → List Instruction
-  place (Rule.variable i) Γ = var (seen Γ i) ∷ []
-  place (Rule.reference i) Γ = var (seen Γ i) ∷ Ld ∷ []
+  place (Rule.variable i) Γ = var (entry-of Γ i) ∷ []
+  place (Rule.reference i) Γ = var (entry-of Γ i) ∷ Ld ∷ []
   place (Rule.field p k) Γ = place p Γ ++ (Off k ∷ [])
   place (Rule.element p v n s) Γ = place p Γ ++ (value v Γ ++ (Index n s ∷ []))
 
@@ -74,6 +73,7 @@ abbrev pub called : Entry → List Argument → Scope → List Instruction
 called (at l k) xs Γ = []
 called (procedure fs n l t) xs Γ = Frame n ∷ (arguments fs xs 2 Γ ++ (Enter l t ∷ []))
 
+-- a block whose variables have any cells clears them
 abbrev pub zeroing : ℕ → ℕ → ℕ → List Instruction
 zeroing l k zero = []
 zeroing l k (suc n) = Zero l k (suc n) ∷ []
@@ -186,7 +186,7 @@ abbrev mutual
   action (Rule.write-int v) Γ l k pc t = value v Γ ++ (Puti ∷ [])
   action (Rule.write-bool v) Γ l k pc t = value v Γ ++ (Putb ∷ [])
   action Rule.newline Γ l k pc t = Nl ∷ []
-  action (Rule.call i xs) Γ l k pc t = called (seen Γ i) xs Γ
+  action (Rule.call i xs) Γ l k pc t = called (entry-of Γ i) xs Γ
   action (Rule.inner b) Γ l k pc t = block b Γ l k pc t
 
   pub actions : Actions → Scope → ℕ → ℕ → ℕ → ℕ → List Instruction

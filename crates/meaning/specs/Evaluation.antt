@@ -1,9 +1,10 @@
--- The evaluation of a rule, row by row, each with its charges, cut off before charge `limit` + 1.
+-- The evaluation of a rule over a flat memory, in which a variable is cells at an address. Its rows and charges are those of
+-- the meaning, its addresses and frames those of the code: it stands between the two in the proof, and nothing rests on it.
 use Prim.Native.Nat.{ℕ, zero, suc, _+_, _*_}
 use mathlib.Core.List.{List, [], _∷_, _++_}
 use mathlib.Core.Bool.{true, false, not}
 use lib.IntN.{ℤ, pos}
-use lib.ListN.{length, getD, set, take, drop, replicate}
+use lib.ListN.{length, getD, set}
 use lib.Dec.{leb, eqb}
 use Rattle.meaning.specs.Rule.{Place, Value, Argument, Formal, Action, Actions, Declarations, Block}
 use Rattle.meaning.specs.Rule as Rule
@@ -120,9 +121,9 @@ module _ (limit : ℕ) where
 
   abbrev pub said : Event → World → Outcome Unit
   said e w =
-      let more : List ℕ = w .host .marks ++ w .host .renders e in
-      elim (leb (length more) (w .host .room)) [
-        | true ↦ done tt (record { cells = w .cells; top = w .top; count = w .count; host = record { items = w .host .items; marks = more; room = w .host .room; renders = w .host .renders } })
+      let h : Host = record { items = w .host .items; marks = w .host .marks ++ w .host .renders e; room = w .host .room; renders = w .host .renders } in
+      elim (leb (length (h .marks)) (h .room)) [
+        | true ↦ done tt (record { cells = w .cells; top = w .top; count = w .count; host = h })
         | false ↦ fault 26 w
       ]
 

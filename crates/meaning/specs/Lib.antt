@@ -11,10 +11,10 @@ pub mod Sound
 pub mod Small
 pub mod Accepted
 pub mod Agreement
-pub mod MeaningAgreement
+pub mod Halves
 pub mod Laws
+pub mod MeaningLaws
 pub mod Lives
 pub mod Clauses
-pub mod Examples
-pub mod MeaningExamples
-pub mod LifeExamples
+pub mod CaseTrees
+pub mod Cases

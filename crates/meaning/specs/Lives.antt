@@ -4,27 +4,28 @@ use Prim.Native.Nat.{ℕ, _+_, _^_, _≤_}
 use mathlib.Core.Path.{_≡_}
 use mathlib.Core.List.{List, [], _∷_}
 use mathlib.Core.Bool.{Bool, true, false, cond}
-use mathlib.Core.Logic.{_↔_}
 use lib.IntN.{ℤ}
 use lib.ListN.{length}
 use lib.Dec.{leb, eqb}
 use Rattle.std.specs.declared.option.Option.{Option}
 use Rattle.std.specs.declared.option.Option.the-variants.{Some, None}
 use Rattle.machine.specs.declared.instruction.Instruction.{Instruction}
-use Rattle.meaning.specs.Rule.{Block}
+use Rattle.tiny.specs.Tree.{BlockTree}
 use Rattle.machine.specs.Host.{Host}
-use Rattle.meaning.specs.Evaluation.{Outcome, done, cut, fault, evaluated}
 use Rattle.machine.specs.Machine.{Standing, Run, going, finished, failed, run, opened}
+use Rattle.meaning.specs.Rule.{Block}
+use Rattle.meaning.specs.Meaning.{meaning}
 use Rattle.meaning.specs.Code.{program}
+use Rattle.meaning.specs.Stages.{Judged, refused, one-of, accepted, judged}
 use Rattle.meaning.specs.Sound.{Sound}
-use Rattle.meaning.specs.Agreement.{outermost}
-use Rattle.meaning.specs.Laws.{world, Is-cut, Spent}
+use Rattle.meaning.specs.Agreement.{Agrees}
+use Rattle.meaning.specs.Laws.{Spent}
 
 -- a source is a list of bytes
 abbrev pub Source : Type 0
 Source = List ℕ
 
--- what a shelf means
+-- what a shelf means: its code, its capacity and what each instruction costs
 pub record Shelf : Type 0 where
   pub code : List Instruction
   pub capacity : ℕ
@@ -93,38 +94,31 @@ module _ (rule-of : Source → Option Block) where
     steps : {t : Tie} {r : Run} (m k : ℕ) → step-cause (runs t r) m k ≡ None → Life (runs t r) → Life (runs t (run (t .code) k r))
     step-refused : {e : Engine} (m k cause : ℕ) → step-cause e m k ≡ Some cause → Life e → Life e
 
-abbrev pub Is-done : Outcome Unit → Type 0
-Is-done (done _ w) = Unit {0}
-Is-done (cut w) = ⊥
-Is-done (fault f w) = ⊥
-
-abbrev pub Is-fault : ℕ → Outcome Unit → Type 0
-Is-fault f (done _ w) = ⊥
-Is-fault f (cut w) = ⊥
-Is-fault f (fault g w) = f ≡ g
-
--- nothing tells the run from the evaluation, and no fault of the machine's own occurs
-pub record Alike (b : Block) (o : Outcome Unit) (r : Run) : Type 0 where
-  pub goes-on : (r .standing ≡ going) ↔ Is-cut o
-  pub finishes : (r .standing ≡ finished) ↔ Is-done o
-  pub fails : (f : ℕ) → (r .standing ≡ failed f) ↔ Is-fault f o
-  pub output : r .machine .host .marks ≡ world o .host .marks
-  pub input : r .machine .host .items ≡ world o .host .items
-  pub variables : outermost b (r .machine .cells) ≡ outermost b (world o .cells)
-  pub count : r .count ≡ world o .count
-  pub lawful : (f : ℕ) → r .standing ≡ failed f → (21 ≤ f) × (f ≤ 27)
-
--- a run that has a source is like the evaluation of the source's rule, cut off at the run's count
+-- a run that has a source agrees with the meaning of the source's rule, cut off at the run's count
 abbrev pub Agreed : (Source → Option Block) → Engine → Type 0
 Agreed rule-of no-run = Unit {0}
 Agreed rule-of (runs t r) =
-    (s : Source) → t .source ≡ Some s → (b : Block) × (rule-of s ≡ Some b) × Alike b (evaluated (r .count) b (t .cells) (t .host)) r
+    (s : Source) → t .source ≡ Some s → (b : Block) × (rule-of s ≡ Some b) × Agrees b (meaning (r .count) b (length (t .cells)) (t .host)) r
 
 abbrev pub Rules-sound : (Source → Option Block) → Type 0
 Rules-sound rule-of = (s : Source) (b : Block) → rule-of s ≡ Some b → Sound b
 
 abbrev pub Lives-agree : Type 0
 Lives-agree = (rule-of : Source → Option Block) → Rules-sound rule-of → (e : Engine) → Life rule-of e → Agreed rule-of e
+
+-- the rule of a tree, if there is a tree and the checks accept it
+abbrev pub passed : Judged → Option Block
+passed (refused b) = None
+passed (one-of bs) = None
+passed (accepted b) = Some b
+
+abbrev pub rule-of-tree : Option BlockTree → Option Block
+rule-of-tree None = None
+rule-of-tree (Some t) = passed (judged t)
+
+-- the rules of sources whose trees the checks accept are sound, however sources are read as trees
+abbrev pub Judged-rules-sound : Type 0
+Judged-rules-sound = (tree-of : Source → Option BlockTree) → Rules-sound (λ s. rule-of-tree (tree-of s))
 
 -- how the budgets were cut up does not matter: of one opening, runs of the same count are the same
 abbrev pub Budgets-free : Type 0

@@ -205,23 +205,27 @@ module _ (limit room : ℕ) where
         inside ← declare ds ρ
         act-all xs inside
 
-  -- enough ranks for `limit` charges: each use of `again` comes after a charge of its own
+  -- Each use of `again` comes after a charge of its own, so `limit` ranks are enough for `limit` charges.
   abbrev pub ranked : ℕ → Action → Env → State → Outcome Unit
   ranked zero a ρ s = cut s
   ranked (suc r) a ρ s = act (ranked r) a ρ s
 
   -- a rule counts cells as a call without arguments does; the objects of its outermost block stay to be seen
-  abbrev pub program : Block → State → Outcome Unit
-  program b = do
+  abbrev pub program : ℕ → Block → State → Outcome Unit
+  program rank b = do
     charge
     enter (frame-size [] b)
     charge
-    block (ranked limit) b []
+    block (ranked rank) b []
     charge
+
+-- with as many ranks as are given
+abbrev pub ranked-meaning : ℕ → ℕ → Block → ℕ → Host → Outcome Unit
+ranked-meaning rank limit b room h = program limit room rank b (record { objects = []; used = 0; host = h; count = 0 })
 
 -- the meaning of a rule with a host, within `limit` charges and `room` cells
 abbrev pub meaning : ℕ → Block → ℕ → Host → Outcome Unit
-meaning limit b room h = program limit room b (record { objects = []; used = 0; host = h; count = 0 })
+meaning limit b room h = ranked-meaning limit limit b room h
 
 -- how many variables a block has
 abbrev pub variables : Declarations → ℕ

@@ -109,13 +109,11 @@ abbrev pub hear : List Item → (Item → Answer) → State → Outcome ℤ
 hear [] f s = fault 24 s
 hear (i ∷ is) f s = taken is (f i) s
 
+-- an event is rendered behind the marks there are, if it fits
 abbrev pub said : Event → State → Outcome Unit
 said e s =
-    let more : List ℕ = s .host .marks ++ s .host .renders e in
-    elim (leb (length more) (s .host .room)) [
-      | true ↦ done tt (with-host s (record { items = s .host .items; marks = more; room = s .host .room; renders = s .host .renders }))
-      | false ↦ fault 26 s
-    ]
+    let h : Host = record { items = s .host .items; marks = s .host .marks ++ s .host .renders e; room = s .host .room; renders = s .host .renders } in
+    elim (leb (length (h .marks)) (h .room)) [ true ↦ done tt (with-host s h) | false ↦ fault 26 s ]
 
 -- the contents of objects, one after another
 abbrev pub contents : List Object → List ℤ

@@ -1,4 +1,4 @@
--- How many cells a rule's parts take. A call that would pass the memory's cells is fault 27.
+-- How many cells a rule's parts take: siblings share cells, an inner block's come after its outer's. A call whose frame passes the memory is fault 27.
 use Prim.Native.Nat.{ℕ, _+_, max}
 use mathlib.Core.List.{List, [], _∷_}
 use Rattle.meaning.specs.Rule.{Formal, Action, Actions, Declarations, Block}
@@ -13,7 +13,7 @@ abbrev pub formals-size : List Formal → ℕ
 formals-size [] = 0
 formals-size (f ∷ fs) = formal-size f + formals-size fs
 
--- the cells of a block's own variables
+-- the cells of the variables that are declared
 abbrev pub own-size : Declarations → ℕ
 own-size Rule.none = 0
 own-size (Rule.local s ds) = s + own-size ds
@@ -46,3 +46,7 @@ abbrev mutual
 -- the cells of a call: two for the way back, the formals, and the block
 abbrev pub frame-size : List Formal → Block → ℕ
 frame-size fs b = 2 + formals-size fs + block-extent b
+
+-- the cells of a block's own variables
+abbrev pub own-cells : Block → ℕ
+own-cells (Rule.block ds xs) = own-size ds

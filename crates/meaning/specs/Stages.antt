@@ -1,16 +1,15 @@
 -- What each stage finds wrong with a tree, as a list of numbers with their places.
-use Prim.Native.Nat.{ℕ, zero, suc, _+_}
+use Prim.Native.Nat.{ℕ, suc, _+_}
 use mathlib.Core.List.{List, [], _∷_, _++_}
 use mathlib.Core.Bool.{Bool, true, false, cond}
 use lib.Dec.{ltb}
 use Rattle.tiny.specs.Tree.{Name, TypeTree, Fields, Expression, Formals, Statement, Statements, DeclarationTrees, BlockTree}
 use Rattle.tiny.specs.Tree as Tree
-use Rattle.meaning.specs.Types.{Ty, size, Typed, Formed, Meaning, Scope, same-name, type-of, form-of, meaning-of}
+use Rattle.meaning.specs.Types.{size, Typed, Formed, Meaning, Scope, same-name, type-of, form-of, meaning-of}
 use Rattle.meaning.specs.Types as Types
 use Rattle.meaning.specs.Statements.{Acted, Blocked, action-of, block-of, declare, meant, passed, still, seen-by, plain, inside, signature-of, procedure-scope, scope-of}
 use Rattle.meaning.specs.Statements as Statements
 use Rattle.meaning.specs.Rule.{Block}
-use Rattle.meaning.specs.Rule as Rule
 use Rattle.meaning.specs.Evaluation.{frame-size}
 
 pub record Break : Type 0 where
@@ -20,7 +19,7 @@ pub record Break : Type 0 where
 abbrev pub break : ℕ → ℕ → List Break
 break n p = record { number = n; at = p } ∷ []
 
--- Depth, in the order of the source: a node deeper than 96, a procedure nested deeper than 8.
+-- Depth, in the order of the source: a node deeper than 96, a procedure nested deeper than 8. d is the node's depth.
 
 abbrev pub deeper : ℕ → ℕ → ℕ → List Break
 deeper most d p = cond (ltb most d) (break 7 p) []
@@ -219,6 +218,7 @@ abbrev pub kinds-all : List Expression → Scope → List Break
 kinds-all [] Γ = []
 kinds-all (e ∷ es) Γ = kinds e Γ ++ kinds-all es Γ
 
+-- the name after call is a node of its own
 abbrev pub callee : Meaning → ℕ → List Break
 callee (Types.Meaning.variable t) at = break 10 at
 callee (Types.Meaning.reference t) at = break 10 at

@@ -1,11 +1,10 @@
 -- The rules by which a statement and a block are sound, and the rule that a sound block makes.
-use Prim.Native.Nat.{ℕ, zero, suc, _+_}
+use Prim.Native.Nat.{ℕ, _+_}
 use mathlib.Core.List.{List, [], _∷_, _++_}
 use mathlib.Core.Bool.{Bool, true, false, cond, _&&_, not}
-use lib.IntN.{ℤ, pos, negsuc}
-use Rattle.tiny.specs.Tree.{Name, TypeTree, Fields, Expression, Formals, Statement, Statements, DeclarationTrees, BlockTree}
+use Rattle.tiny.specs.Tree.{Name, Expression, Formals, Statement, Statements, DeclarationTrees, BlockTree}
 use Rattle.tiny.specs.Tree as Tree
-use Rattle.meaning.specs.Types.{Ty, int, bool, size, fits, scalar, Meaning, Declared, Scope, Typed, Form, Formed, meaning-of, number-of, type-of, form-of, read-of, place, value, copies}
+use Rattle.meaning.specs.Types.{Ty, int, bool, size, fits, scalar, Meaning, Scope, Typed, Form, Formed, meaning-of, number-of, type-of, form-of, read-of, place, value, copies}
 use Rattle.meaning.specs.Types as Types
 use Rattle.meaning.specs.Rule.{Place, Value, Argument, Formal, Action, Actions, Declarations, Block}
 use Rattle.meaning.specs.Rule as Rule
@@ -23,20 +22,22 @@ pub data Listed : Type 0 where
   sound : Actions → Listed
   unsound : Listed
 
-abbrev pub whena : Formed → (Form → Ty → Acted) → Acted
-whena (Types.Formed.sound f t) k = k f t
-whena (Types.Formed.broken n) k = unsound
-whena Types.Formed.unsound k = unsound
+abbrev pub when-expression : Formed → (Form → Ty → Acted) → Acted
+when-expression (Types.Formed.sound f t) k = k f t
+when-expression (Types.Formed.broken n) k = unsound
+when-expression Types.Formed.unsound k = unsound
 
-abbrev pub whenb : Blocked → (Block → Acted) → Acted
-whenb (sound b) k = k b
-whenb unsound k = unsound
+abbrev pub when-block : Blocked → (Block → Acted) → Acted
+when-block (sound b) k = k b
+when-block unsound k = unsound
 
+-- under `@`
 abbrev pub dropped : Form → Action
 dropped (place p) = Rule.drop-place p
 dropped (value v) = Rule.drop-value v
 dropped (copies p q n) = Rule.copy p q n
 
+-- 12 where a designator is needed
 abbrev pub onto : Form → (Place → Acted) → Acted
 onto (place p) k = k p
 onto (value v) k = broken 12
@@ -55,6 +56,7 @@ pub data Given : Type 0 where
   broken : ℕ → Given
   unsound : Given
 
+-- a formal by reference needs a designator, and so does an array or a struct
 abbrev pub argument : Formal → Form → Argument → Given
 argument (Rule.by-value s) f a = sound (a ∷ [])
 argument (Rule.by-reference s) (place p) a = sound (Rule.address p ∷ [])
@@ -69,7 +71,7 @@ aggregate f (copies p q n) t = broken 12
 abbrev pub given-one : Formal → Ty → Form → Ty → Given
 given-one f t g u = cond (fits t u) (cond (scalar t) (argument f g (Rule.value (read-of g))) (aggregate f g t)) (broken 11)
 
--- 13 before 11, 11 before 12
+-- of two breaks in one call: 13 before 11, 11 before 12
 abbrev pub join : Given → Given → Given
 join (sound xs) (sound ys) = sound (xs ++ ys)
 join (sound xs) (broken n) = broken n
@@ -110,6 +112,7 @@ called i (Types.Meaning.type-name t) gs = unsound
 called i (Types.Meaning.procedure fs ts) gs = calling i (given fs ts gs)
 called i Types.Meaning.unsound gs = unsound
 
+-- what a declared name means, by its type
 abbrev pub meant : Typed → (Ty → Meaning) → Meaning
 meant (Types.Typed.sound t) k = k t
 meant (Types.Typed.broken n) k = Types.Meaning.unsound
@@ -131,6 +134,7 @@ with-formal r (Types.Typed.sound t) Types.Meaning.unsound = Types.Meaning.unsoun
 with-formal r (Types.Typed.broken n) m = Types.Meaning.unsound
 with-formal r Types.Typed.unsound m = Types.Meaning.unsound
 
+-- what a formal means inside its procedure
 abbrev pub passed : Bool → Ty → Meaning
 passed true t = Types.Meaning.reference t
 passed false t = Types.Meaning.variable t
@@ -186,6 +190,7 @@ local (Types.Typed.sound t) unsound = unsound
 local (Types.Typed.broken n) ds = unsound
 local Types.Typed.unsound ds = unsound
 
+-- a type that is named leaves nothing in the rule
 abbrev pub unseen : Typed → Declares → Declares
 unseen (Types.Typed.sound t) ds = ds
 unseen (Types.Typed.broken n) ds = unsound
@@ -211,23 +216,24 @@ with-actions (sound ds) (sound xs) = sound (Rule.block ds xs)
 with-actions (sound ds) unsound = unsound
 with-actions unsound xs = unsound
 
+-- the test of an if or a while is a bool, else 11
 abbrev pub test : Formed → (Value → Acted) → Acted
-test g k = whena g (λ f t. cond (fits bool t) (k (read-of f)) (broken 11))
+test g k = when-expression g (λ f t. cond (fits bool t) (k (read-of f)) (broken 11))
 
 abbrev mutual
   pub action-of : Statement → Scope → Acted
-  action-of (Tree.eval at e) Γ = whena (form-of e Γ) (λ f t. sound (dropped f))
-  action-of (Tree.if-then at e b) Γ = whenb (block-of b Γ) (λ c. test (form-of e Γ) (λ v. sound (Rule.choose v c)))
+  action-of (Tree.eval at e) Γ = when-expression (form-of e Γ) (λ f t. sound (dropped f))
+  action-of (Tree.if-then at e b) Γ = when-block (block-of b Γ) (λ c. test (form-of e Γ) (λ v. sound (Rule.choose v c)))
   action-of (Tree.if-else at e b c) Γ =
-      whenb (block-of b Γ) (λ b′. whenb (block-of c Γ) (λ c′. test (form-of e Γ) (λ v. sound (Rule.choose-else v b′ c′))))
-  action-of (Tree.while at e b) Γ = whenb (block-of b Γ) (λ c. test (form-of e Γ) (λ v. sound (Rule.repeat v c)))
+      when-block (block-of b Γ) (λ b′. when-block (block-of c Γ) (λ c′. test (form-of e Γ) (λ v. sound (Rule.choose-else v b′ c′))))
+  action-of (Tree.while at e b) Γ = when-block (block-of b Γ) (λ c. test (form-of e Γ) (λ v. sound (Rule.repeat v c)))
   action-of (Tree.read at e) Γ =
-      whena (form-of e Γ) (λ f t. by-scalar t (onto f (λ p. sound (Rule.read-int p))) (onto f (λ p. sound (Rule.read-bool p))))
+      when-expression (form-of e Γ) (λ f t. by-scalar t (onto f (λ p. sound (Rule.read-int p))) (onto f (λ p. sound (Rule.read-bool p))))
   action-of (Tree.write at e) Γ =
-      whena (form-of e Γ) (λ f t. by-scalar t (sound (Rule.write-int (read-of f))) (sound (Rule.write-bool (read-of f))))
+      when-expression (form-of e Γ) (λ f t. by-scalar t (sound (Rule.write-int (read-of f))) (sound (Rule.write-bool (read-of f))))
   action-of (Tree.nl at) Γ = sound Rule.newline
   action-of (Tree.call at here x es) Γ = called (number-of x Γ) (meaning-of x Γ) (forms-of es Γ)
-  action-of (Tree.compound b) Γ = whenb (block-of b Γ) (λ c. sound (Rule.inner c))
+  action-of (Tree.compound b) Γ = when-block (block-of b Γ) (λ c. sound (Rule.inner c))
 
   pub actions-of : Statements → Scope → Listed
   actions-of Tree.no-statement Γ = sound Rule.nothing

@@ -1,14 +1,16 @@
--- Types, names and what they stand for, and the rules by which an expression or a statement is sound.
-use Prim.Native.Nat.{ℕ, zero, suc, _+_, _*_}
-use mathlib.Core.List.{List, [], _∷_, _++_}
-use mathlib.Core.Bool.{Bool, true, false, cond, _&&_, not}
+-- Types, names and what they stand for, and the rules by which a type and an expression are sound. A node is broken,
+-- under the number of its own rule, or unsound because a part or a declaration of it is not sound.
+use Prim.Native.Nat.{ℕ, _+_, _*_}
+use mathlib.Core.List.{List, [], _∷_}
+use mathlib.Core.Bool.{Bool, true, false, cond, _&&_}
 use lib.IntN.{ℤ, pos, negsuc}
 use lib.Dec.{eqb}
-use Rattle.tiny.specs.Tree.{Name, TypeTree, Fields, Expression, Formals, Statement, Statements, DeclarationTrees, BlockTree}
+use Rattle.tiny.specs.Tree.{Name, TypeTree, Fields, Expression}
 use Rattle.tiny.specs.Tree as Tree
-use Rattle.meaning.specs.Rule.{Unary, Binary, Place, Value, Argument, Formal, Action, Actions, Declarations, Block}
+use Rattle.meaning.specs.Rule.{Unary, Binary, Place, Value, Formal}
 use Rattle.meaning.specs.Rule as Rule
 
+-- an array's element and length, a struct's fields
 mutual
   pub data Ty : Type 0 where
     int bool : Ty
@@ -19,6 +21,7 @@ mutual
     no-member : Members
     member : Name → Ty → Members → Members
 
+-- in cells
 abbrev mutual
   pub size : Ty → ℕ
   size int = 1
@@ -36,7 +39,7 @@ same-name [] (y ∷ ys) = false
 same-name (x ∷ xs) [] = false
 same-name (x ∷ xs) (y ∷ ys) = eqb x y && same-name xs ys
 
--- types fit by structure; the names of fields do not count
+-- types fit by structure: lengths count, the names of types and fields do not
 abbrev mutual
   pub fits : Ty → Ty → Bool
   fits int int = true
@@ -62,7 +65,7 @@ abbrev mutual
   members-fit (member x t ms) no-member = false
   members-fit (member x t ms) (member y u ns) = fits t u && members-fit ms ns
 
--- what a declared name stands for; `unsound` where its type or its formals are not sound
+-- what a declared name means; `unsound` where its type or its formals are not sound
 pub data Meaning : Type 0 where
   variable reference type-name : Ty → Meaning
   procedure : List Formal → List Ty → Meaning
@@ -75,12 +78,12 @@ pub record Declared : Type 0 where
 abbrev pub Scope : Type 0
 Scope = List Declared
 
--- the meaning of the latest declaration of a name
+-- the meaning of the latest declaration of a name in the innermost scope that has one
 abbrev pub meaning-of : Name → Scope → Meaning
 meaning-of x [] = unsound
 meaning-of x (d ∷ Γ) = cond (same-name x (d .name)) (d .meaning) (meaning-of x Γ)
 
--- types have no place at run time, and are not counted
+-- how many names a declaration adds to those of the rule, where types have none
 abbrev pub counts : Meaning → ℕ
 counts (variable t) = 1
 counts (reference t) = 1
@@ -88,21 +91,22 @@ counts (type-name t) = 0
 counts (procedure fs ts) = 1
 counts unsound = 1
 
+-- the number of a name in the rule
 abbrev pub number-of : Name → Scope → ℕ
 number-of x [] = 0
 number-of x (d ∷ Γ) = cond (same-name x (d .name)) 0 (counts (d .meaning) + number-of x Γ)
 
--- a type's tree: a sound type, a rule of its own that fails under this number, or unsound in its parts
 pub data Typed : Type 0 where
   sound : Ty → Typed
   broken : ℕ → Typed
   unsound : Typed
 
-abbrev pub when : Typed → (Ty → Typed) → Typed
-when (sound t) k = k t
-when (broken n) k = unsound
-when unsound k = unsound
+abbrev pub when-type : Typed → (Ty → Typed) → Typed
+when-type (sound t) k = k t
+when-type (broken n) k = unsound
+when-type unsound k = unsound
 
+-- a name of another kind is 10, a negative length 11
 abbrev pub as-type : Meaning → Typed
 as-type (variable t) = broken 10
 as-type (reference t) = broken 10
@@ -133,14 +137,14 @@ abbrev mutual
   type-of (Tree.int-type at) Γ = sound int
   type-of (Tree.bool-type at) Γ = sound bool
   type-of (Tree.named at x) Γ = as-type (meaning-of x Γ)
-  type-of (Tree.array at t n) Γ = when (type-of t Γ) (sized n)
+  type-of (Tree.array at t n) Γ = when-type (type-of t Γ) (sized n)
   type-of (Tree.struct at fs) Γ = as-struct (members-of fs Γ)
 
   pub members-of : Fields → Scope → Membered
   members-of Tree.no-field Γ = sound no-member
   members-of (Tree.field-of t at x fs) Γ = with-member x (type-of t Γ) (members-of fs Γ)
 
--- an expression: a designator, a value, or an assignment of a whole array or struct
+-- what an expression is: a designator, a value, or the assignment of a whole array or struct of so many cells
 pub data Form : Type 0 where
   place : Place → Form
   value : Value → Form
@@ -151,16 +155,18 @@ pub data Formed : Type 0 where
   broken : ℕ → Formed
   unsound : Formed
 
-abbrev pub whenf : Formed → (Form → Ty → Formed) → Formed
-whenf (sound f t) k = k f t
-whenf (broken n) k = unsound
-whenf unsound k = unsound
+abbrev pub when-form : Formed → (Form → Ty → Formed) → Formed
+when-form (sound f t) k = k f t
+when-form (broken n) k = unsound
+when-form unsound k = unsound
 
+-- an int or bool as a value: a designator is read
 abbrev pub read-of : Form → Value
 read-of (place p) = Rule.content p
 read-of (value v) = v
 read-of (copies p q n) = Rule.literal (pos 0)
 
+-- 12 where a designator is needed
 abbrev pub on-place : Form → (Place → Formed) → Formed
 on-place (place p) k = k p
 on-place (value v) k = broken 12
@@ -179,6 +185,7 @@ named-as i (type-name t) = broken 10
 named-as i (procedure fs ts) = broken 10
 named-as i unsound = unsound
 
+-- 11 goes before 12; the right side of an array or struct is a designator too
 abbrev pub assigned : Form → Ty → Form → Ty → Formed
 assigned f t g u =
     cond (fits t u) (on-place f (λ p. cond (scalar t) (sound (value (Rule.store p (read-of g))) t) (on-place g (λ q. sound (copies p q (size t)) t)))) (broken 11)
@@ -216,12 +223,14 @@ abbrev pub operand : Unary → Ty
 operand Rule.neg = int
 operand Rule.not = bool
 
+-- `ok`: the index is an int
 abbrev pub element-of : Ty → Form → Value → Bool → Formed
 element-of int f v ok = broken 11
 element-of bool f v ok = broken 11
 element-of (array t n) f v ok = cond ok (on-place f (λ p. sound (place (Rule.element p v n (size t))) t)) (broken 11)
 element-of (struct ms) f v ok = broken 11
 
+-- the field x, the first of the members `k` cells in; one that the struct lacks is 10
 abbrev pub selected : Members → Name → Form → ℕ → Formed
 selected no-member x f k = broken 10
 selected (member y t ms) x f k =
@@ -237,11 +246,11 @@ abbrev pub form-of : Expression → Scope → Formed
 form-of (Tree.number at z) Γ = sound (value (Rule.literal z)) int
 form-of (Tree.truth at b) Γ = sound (value (Rule.literal (cond b (pos 1) (pos 0)))) bool
 form-of (Tree.name at x) Γ = named-as (number-of x Γ) (meaning-of x Γ)
-form-of (Tree.assign at d e) Γ = whenf (form-of d Γ) (λ f t. whenf (form-of e Γ) (λ g u. assigned f t g u))
+form-of (Tree.assign at d e) Γ = when-form (form-of d Γ) (λ f t. when-form (form-of e Γ) (λ g u. assigned f t g u))
 form-of (Tree.binary at o d e) Γ =
-    whenf (form-of d Γ) (λ f t. whenf (form-of e Γ) (λ g u.
+    when-form (form-of d Γ) (λ f t. when-form (form-of e Γ) (λ g u.
     cond (allowed (signature o) t u) (sound (value (Rule.binary o (read-of f) (read-of g))) (result (signature o))) (broken 11)))
 form-of (Tree.unary at o e) Γ =
-    whenf (form-of e Γ) (λ f t. cond (fits (operand o) t) (sound (value (Rule.unary o (read-of f))) t) (broken 11))
-form-of (Tree.index at d e) Γ = whenf (form-of d Γ) (λ f t. whenf (form-of e Γ) (λ g u. element-of t f (read-of g) (fits int u)))
-form-of (Tree.select at d x) Γ = whenf (form-of d Γ) (λ f t. field-of t x f)
+    when-form (form-of e Γ) (λ f t. cond (fits (operand o) t) (sound (value (Rule.unary o (read-of f))) t) (broken 11))
+form-of (Tree.index at d e) Γ = when-form (form-of d Γ) (λ f t. when-form (form-of e Γ) (λ g u. element-of t f (read-of g) (fits int u)))
+form-of (Tree.select at d x) Γ = when-form (form-of d Γ) (λ f t. field-of t x f)

@@ -1,4 +1,4 @@
-use Rattle.meaning.proofs.Meant.{meaning-agrees}
+use Rattle.meaning.proofs.Agreement.{meaning-agrees}
 use Rattle.meaning.proofs.meaning_stands.Needs as need
 
 pub returns : need.returns

@@ -1,4 +1,4 @@
-use Rattle.meaning.proofs.Meant.{objects-agree}
+use Rattle.meaning.proofs.Objects.{objects-agree}
 use Rattle.meaning.proofs.objects_stand.Needs as need
 
 pub returns : need.returns

@@ -1,4 +1,4 @@
--- The meaning of a sound rule, its evaluation over addresses, and the run of its code.
+-- The meaning of a sound rule beside its evaluation over addresses.
 use Prim.Native.Nat.{ℕ, zero, suc, _+_, _≤_, _<_}
 use mathlib.Core.Path.{_≡_, refl, sym, ap, _∙_, subst}
 use mathlib.Core.List.{List, []}
@@ -14,13 +14,10 @@ use Rattle.meaning.specs.Objects.{State}
 use Rattle.meaning.specs.Objects as Objects
 use Rattle.meaning.specs.Meaning.{meaning}
 use Rattle.meaning.specs.Meaning as Meaning
-use Rattle.machine.specs.Machine.{Run, run, opened}
-use Rattle.meaning.specs.Code.{program}
 use Rattle.meaning.specs.Sound.{Sound}
-use Rattle.meaning.specs.Agreement.{own-cells, Agrees, Same}
-use Rattle.meaning.specs.MeaningAgreement.{Like, Likewise, Objects-agree, Shown, Shows, Meaning-agrees}
-use Rattle.meaning.specs.MeaningAgreement as MeaningAgreement
-use Rattle.meaning.proofs.Agree.{agreement}
+use Rattle.meaning.specs.Sizes.{own-cells}
+use Rattle.meaning.specs.Halves.{Like, Likewise, Objects-agree}
+use Rattle.meaning.specs.Halves as Halves
 use Rattle.meaning.proofs.Cells.{patched-length}
 use Rattle.meaning.proofs.Stretches.{Layout, apart-none, store-none, Store, grown-same, layout}
 use Rattle.meaning.proofs.Pairs.{Alike, dones, cuts, faults, next, next-left, next-right, Both, outer, like, charge-like, charge-both}
@@ -130,20 +127,9 @@ whole b sound cs h n =
     Q = λ _ t _ v. Both b (outer b) M (outer b) (frame-size [] b) t v
 
 seen : (b : Block) (M U : ℕ) (P : Layout) {o : Objects.Outcome Unit} {e : Evaluation.Outcome Unit} → Alike b (λ _ t _ v. Both b (outer b) M P U t v) o e → Likewise b o e
-seen b M U P (dones {s = s} {w = w} h) = MeaningAgreement.dones (like b M P U s w h)
-seen b M U P (cuts h) = MeaningAgreement.cuts h
-seen b M U P (faults h) = MeaningAgreement.faults h
+seen b M U P (dones {s = s} {w = w} h) = Halves.dones (like b M P U s w h)
+seen b M U P (cuts h) = Halves.cuts h
+seen b M U P (faults h) = Halves.faults h
 
 pub objects-agree : Objects-agree
 objects-agree b sound cs h n = seen b (length cs) (frame-size [] b) (outer b) (whole b sound cs h n)
-
-shown : (b : Block) (s : State) (w : World) (r : Run) → Like b s w → Same b w r → Shown b s r
-shown b s w r l e = record { count = e .count ∙ l .count; host = e .host ∙ l .host; variables = λ h. e .variables ∙ l .variables h }
-
-shows : (b : Block) {o : Objects.Outcome Unit} {e : Evaluation.Outcome Unit} (r : Run) → Likewise b o e → Agrees b e r → Shows b o r
-shows b r (MeaningAgreement.dones {s = s} {w = w} l) a = (a .0, shown b s w r l (a .1))
-shows b r (MeaningAgreement.cuts {s = s} {w = w} l) a = (a .0, shown b s w r l (a .1))
-shows b r (MeaningAgreement.faults {s = s} {w = w} l) a = (a .0, shown b s w r l (a .1))
-
-pub meaning-agrees : Meaning-agrees
-meaning-agrees b sound cs small h n = shows b (run (program b) n (opened cs h)) (objects-agree b sound cs h n) (agreement b sound cs small h n)

@@ -1,4 +1,4 @@
--- The evaluation of a sound rule and the run of its code.
+-- The evaluation over addresses of a sound rule, and the run of its code.
 use Prim.Native.Nat.{ℕ, suc, _+_, _^_, _≤_, _<_}
 use mathlib.Core.Path.{_≡_, refl, sym, ap, _∙_, subst}
 use mathlib.Core.List.{List, [], _∷_, _++_}
@@ -14,10 +14,11 @@ use Rattle.meaning.specs.Rule.{Block}
 use Rattle.meaning.specs.Rule as Rule
 use Rattle.machine.specs.Host.{Host}
 use Rattle.meaning.specs.Evaluation.{World, Outcome, done, cut, fault, _>>=_, _>>_, charge, take-frame, ranked, evaluated, frame-size, block-extent, zeroed}
-use Rattle.machine.specs.Machine.{Machine, goes, fails, going, finished, failed, Run, fetched, after, effect, on, run, opened}
+use Rattle.machine.specs.Machine.{Machine, goes, fails, going, finished, failed, Run, fetched, after, effect, run, opened}
 use Rattle.meaning.specs.Code.{block, procs-block, block-length, program}
 use Rattle.meaning.specs.Sound.{Sound}
-use Rattle.meaning.specs.Agreement.{Agrees, Agreement, own-cells}
+use Rattle.meaning.specs.Halves.{Follows, Addresses-agree}
+use Rattle.meaning.specs.Sizes.{own-cells}
 use Rattle.meaning.proofs.Cells.{mem-outer, patched-length}
 use Rattle.meaning.proofs.Tracks.{Setting, St, tick, mach, Ends, ends-bind, charged, stays-to}
 use Rattle.meaning.proofs.Scopes.{Sits, sits-left, sits-right, sits-at, fetched-at}
@@ -51,7 +52,7 @@ module _ (b : Block) (sound : Sound b) (cs : List ℤ) (small : length cs < 2 ^ 
   w₂ = record { cells = zeroed cs 0 (frame-size [] b); top = 0 + frame-size [] b; host = h; count = 1 }
 
   abbrev Q : Unit {0} → World → Type 0
-  Q _ w = Agrees b (done tt w) (run (program b) n (opened cs h))
+  Q _ w = Follows b (done tt w) (run (program b) n (opened cs h))
 
   whole : Sits (program b) (program b) 0
   whole = sits-all (program b) [] (program b) refl
@@ -105,7 +106,7 @@ module _ (b : Block) (sound : Sound b) (cs : List ℤ) (small : length cs < 2 ^ 
         bound = one;
       }
 
-  agrees : (o : Outcome Unit) → Ends g o Q → Agrees b o (run (program b) n (opened cs h))
+  agrees : (o : Outcome Unit) → Ends g o Q → Follows b o (run (program b) n (opened cs h))
   unfolding g
   agrees (done tt w) e = e
   agrees (cut w) e = e
@@ -146,9 +147,9 @@ module _ (b : Block) (sound : Sound b) (cs : List ℤ) (small : length cs < 2 ^ 
       one : 0 < n
       one = below (λ c. subst T q (subst (λ (x : ℕ). T (eqb x n)) (sym c) (eqb-refl n)))
 
-  pub agree : Agrees b (evaluated n b cs h) (run (program b) n (opened cs h))
+  pub agree : Follows b (evaluated n b cs h) (run (program b) n (opened cs h))
   unfolding rest
   agree = agrees (evaluated n b cs h) (start-ok (eqb 0 n) refl)
 
-pub agreement : Agreement
-agreement b sound cs small h n = agree b sound cs small h n
+pub addresses-agree : Addresses-agree
+addresses-agree b sound cs small h n = agree b sound cs small h n

@@ -1,5 +1,0 @@
-use Rattle.meaning.proofs.Agree.{agreement}
-use Rattle.meaning.proofs.agreement_stands.Needs as need
-
-pub returns : need.returns
-returns c = agreement
