@@ -1,3 +1,6 @@
+-- Definitions of the machine.
+pub mod Instructions
+pub mod Shelves
 pub mod Ints
 pub mod Host
 pub mod Cells

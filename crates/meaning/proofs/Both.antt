@@ -4,9 +4,11 @@ use mathlib.Core.Path.{_≡_, refl, sym, ap, _∙_, subst, fun-ext}
 use mathlib.Core.List.{List, [], _++_, append-assoc}
 use mathlib.Core.Bool.{Bool, true, false}
 use native.Mathlib.Omega.{arith}
+use lib.IntN.{ℤ}
 use lib.Dec.{T, eqb, eqb→eq, eqb-refl}
 use Rattle.std.proofs.shelf.Lists.{append-nil}
-use Rattle.machine.specs.Host.{Host, Item}
+use Rattle.machine.specs.Host.{Host}
+use Rattle.machine.specs.declared.host.Item.{Item}
 use Rattle.meaning.specs.Evaluation.{World, Outcome, done, cut, fault, _>>=_, _>>_, return, charge}
 use Rattle.meaning.specs.Laws.{world, Further}
 use Rattle.meaning.proofs.Tracks.{tick}
@@ -24,7 +26,7 @@ further-refl w v c e = record {
 pub further-trans : (u v w : World) → Further u v → Further v w → Further u w
 further-trans u v w f g = record {
   count = omega (arith, f .count, g .count);
-  marks = (f .marks .0 ++ g .marks .0, g .marks .1 ∙ ap (λ (x : List ℕ). x ++ g .marks .0) (f .marks .1) ∙ append-assoc (u .host .marks) (f .marks .0) (g .marks .0));
+  marks = (f .marks .0 ++ g .marks .0, g .marks .1 ∙ ap (λ (x : List ℤ). x ++ g .marks .0) (f .marks .1) ∙ append-assoc (u .host .marks) (f .marks .0) (g .marks .0));
   items = (f .items .0 ++ g .items .0, f .items .1 ∙ ap (λ (x : List Item). f .items .0 ++ x) (g .items .1) ∙ sym (append-assoc (f .items .0) (g .items .0) (w .host .items)));
 }
 

@@ -12,7 +12,11 @@ use Rattle.std.proofs.shelf.Lists.{append-nil}
 use Rattle.meaning.specs.Rule.{Unary, Binary, Place, Value, Argument, Formal, Action, Actions, Block}
 use Rattle.meaning.specs.Rule as Rule
 use Rattle.machine.specs.Ints.{Answer, gives, faults, unary-of, binary-of, is-zero, fit, unless-zero}
-use Rattle.machine.specs.Host.{Item, number, unreadable, Event, wrote-int, wrote-bool, wrote-line, bit}
+use Rattle.machine.specs.Host.{bit}
+use Rattle.machine.specs.declared.host.Item.{Item}
+use Rattle.machine.specs.declared.host.Item.the-variants.{Number as number, Unreadable as unreadable}
+use Rattle.machine.specs.declared.host.Event.{Event}
+use Rattle.machine.specs.declared.host.Event.the-variants.{Int as wrote-int, Bool as wrote-bool, Line as wrote-line}
 use Rattle.meaning.specs.Evaluation.{World, Outcome, done, fault, _>>=_, _>>_, return, charge, Binding, at, procedure, Env, formal-size, formals-size, own-size, frame-size, address-of, as-int, as-bool, in-range, nat, zeroed, load, save, settle, indexed, place, value, take-frame, give-back, clear, own-cells, move, taken, hear, said, given, arguments, declared, called, found, act, run-block, act-all, ranked, program}
 use Rattle.meaning.proofs.Both.{Side, early, late, Pair, Quiet, quiet, further-refl, bind, charged, charge-last, lower}
 

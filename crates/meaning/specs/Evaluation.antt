@@ -8,7 +8,10 @@ use lib.Dec.{leb, eqb}
 use Rattle.meaning.specs.Rule.{Place, Value, Argument, Formal, Action, Actions, Declarations, Block}
 use Rattle.meaning.specs.Rule as Rule
 use Rattle.machine.specs.Ints.{Answer, gives, faults, unary-of, binary-of, is-zero}
-use Rattle.machine.specs.Host.{Host, Item, Event, wrote-int, wrote-bool, wrote-line}
+use Rattle.machine.specs.Host.{Host}
+use Rattle.machine.specs.declared.host.Item.{Item}
+use Rattle.machine.specs.declared.host.Event.{Event}
+use Rattle.machine.specs.declared.host.Event.the-variants.{Int as wrote-int, Bool as wrote-bool, Line as wrote-line}
 pub use Rattle.meaning.specs.Sizes.{formal-size, formals-size, own-size, block-extent, actions-extent, action-extent, frame-size}
 pub use Rattle.machine.specs.Cells.{zeroed, moved}
 pub use Rattle.machine.specs.Ints.{in-range, nat}
@@ -120,7 +123,7 @@ module _ (limit : ℕ) where
 
   abbrev pub said : Event → World → Outcome Unit
   said e w =
-      let more : List ℕ = w .host .marks ++ w .host .renders e in
+      let more : List ℤ = w .host .marks ++ w .host .renders e in
       elim (leb (length more) (w .host .room)) [
         | true ↦ done tt (record { cells = w .cells; top = w .top; count = w .count; host = record { items = w .host .items; marks = more; room = w .host .room; renders = w .host .renders } })
         | false ↦ fault 26 w

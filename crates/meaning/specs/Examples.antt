@@ -6,7 +6,10 @@ use lib.IntN.{ℤ, pos, negsuc}
 use lib.ListN.{replicate}
 use Rattle.meaning.specs.Rule as Rule
 use Rattle.meaning.specs.Rule.{Block}
-use Rattle.machine.specs.Host.{Host, Event, wrote-int, wrote-bool, wrote-line, Item}
+use Rattle.machine.specs.Host.{Host}
+use Rattle.machine.specs.declared.host.Item.{Item}
+use Rattle.machine.specs.declared.host.Event.{Event}
+use Rattle.machine.specs.declared.host.Event.the-variants.{Int as wrote-int, Bool as wrote-bool, Line as wrote-line}
 use Rattle.meaning.specs.Evaluation.{Outcome, World, done, cut, fault, evaluated}
 use lib.Dec.{lit≤}
 use Rattle.tiny.specs.Tree as Tree
@@ -18,12 +21,11 @@ use Rattle.machine.specs.Machine.{Run, Machine, Standing, going, finished, fail
 use Rattle.machine.specs.declared.instruction.Instruction.{Instruction}
 use Rattle.machine.specs.declared.instruction.Instruction.the-variants.{Lit, Var, Off, Ld, St, Stk, Copy, Index, Add, Sub, Mul, Div, Mod, Neg, Not, And, Or, Lt, Le, Gt, Ge, Eq, Ne, Jmp, Jf, Geti, Getb, Puti, Putb, Nl, Zero, Frame, Enter, Leave, Dup, Pop, Stop}
 
-abbrev pub renders : Event → List ℕ
-renders (wrote-int (pos n)) = 0 ∷ n ∷ []
-renders (wrote-int (negsuc n)) = 9 ∷ n ∷ []
-renders (wrote-bool true) = 1 ∷ 1 ∷ []
-renders (wrote-bool false) = 1 ∷ 0 ∷ []
-renders wrote-line = 2 ∷ 0 ∷ []
+abbrev pub renders : Event → List ℤ
+renders (wrote-int z) = pos 0 ∷ z ∷ []
+renders (wrote-bool true) = pos 1 ∷ pos 1 ∷ []
+renders (wrote-bool false) = pos 1 ∷ pos 0 ∷ []
+renders wrote-line = pos 2 ∷ pos 0 ∷ []
 
 abbrev pub host : Host
 host = record { items = []; marks = []; room = 100; renders = renders }
@@ -33,7 +35,7 @@ count-of (done _ w) = w .count
 count-of (cut w) = w .count
 count-of (fault f w) = w .count
 
-abbrev marks-of : Outcome Unit → List ℕ
+abbrev marks-of : Outcome Unit → List ℤ
 marks-of (done _ w) = w .host .marks
 marks-of (cut w) = w .host .marks
 marks-of (fault f w) = w .host .marks
@@ -52,7 +54,7 @@ three = Rule.block (Rule.local 1 Rule.none) (Rule._then_ (Rule.drop-value (Rule.
 three-count : count-of (evaluated 100 three (replicate 50 (pos 7)) host) ≡ 11
 three-count = refl
 
-three-marks : marks-of (evaluated 100 three (replicate 50 (pos 7)) host) ≡ 0 ∷ 3 ∷ []
+three-marks : marks-of (evaluated 100 three (replicate 50 (pos 7)) host) ≡ pos 0 ∷ pos 3 ∷ []
 three-marks = refl
 
 -- {int r; proc f(int n, int & s) {if n > 0 {@ s = s + n; call f(n - 1, s)}} && call f(3, r); write r}
@@ -69,7 +71,7 @@ sum = Rule.block (Rule.local 1 (Rule.proc (Rule.by-value 1 ∷ Rule.by-reference
 sum-count : count-of (evaluated 200 sum (replicate 19 (pos 7)) host) ≡ 113
 sum-count = refl
 
-sum-marks : marks-of (evaluated 200 sum (replicate 19 (pos 7)) host) ≡ 0 ∷ 6 ∷ []
+sum-marks : marks-of (evaluated 200 sum (replicate 19 (pos 7)) host) ≡ pos 0 ∷ pos 6 ∷ []
 sum-marks = refl
 
 sum-short : count-of (evaluated 200 sum (replicate 18 (pos 7)) host) ≡ 87
@@ -90,7 +92,7 @@ sum-run = refl
 sum-standing : (ran sum 19 200 .standing) ≡ finished
 sum-standing = refl
 
-sum-written : (ran sum 19 200 .machine .host .marks) ≡ 0 ∷ 6 ∷ []
+sum-written : (ran sum 19 200 .machine .host .marks) ≡ pos 0 ∷ pos 6 ∷ []
 sum-written = refl
 
 sum-18 : (ran sum 18 200 .standing) ≡ failed 27

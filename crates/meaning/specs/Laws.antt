@@ -7,7 +7,8 @@ use Rattle.machine.specs.declared.instruction.Instruction.{Instruction}
 use lib.IntN.{ℤ}
 use lib.ListN.{length}
 use Rattle.meaning.specs.Rule.{Action, Block}
-use Rattle.machine.specs.Host.{Host, Item}
+use Rattle.machine.specs.Host.{Host}
+use Rattle.machine.specs.declared.host.Item.{Item}
 use Rattle.meaning.specs.Evaluation.{World, Outcome, done, cut, fault, Env, ranked, evaluated}
 use Rattle.machine.specs.Machine.{Run, going, run}
 
@@ -48,7 +49,7 @@ world (fault f w) = w
 -- from w to v: no charge is taken back, output is added behind what there was, input is taken from the front
 pub record Further (w v : World) : Type 0 where
   pub count : w .count ≤ v .count
-  pub marks : (more : List ℕ) × (v .host .marks ≡ w .host .marks ++ more)
+  pub marks : (more : List ℤ) × (v .host .marks ≡ w .host .marks ++ more)
   pub items : (taken : List Item) × (w .host .items ≡ taken ++ v .host .items)
 
 -- what an evaluation cut off at n says of one that is cut off later: done or at a fault, that one is the same;

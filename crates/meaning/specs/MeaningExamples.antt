@@ -6,22 +6,23 @@ use lib.IntN.{ℤ, pos, negsuc}
 use mathlib.Core.Bool.{true, false}
 use Rattle.meaning.specs.Rule as Rule
 use Rattle.meaning.specs.Rule.{Block, Action, Actions, Place, Value}
-use Rattle.machine.specs.Host.{Host, Event, wrote-int, wrote-bool, wrote-line}
+use Rattle.machine.specs.Host.{Host}
+use Rattle.machine.specs.declared.host.Event.{Event}
+use Rattle.machine.specs.declared.host.Event.the-variants.{Int as wrote-int, Bool as wrote-bool, Line as wrote-line}
 use Rattle.meaning.specs.Objects.{Outcome, Object, done, cut, fault}
 use Rattle.meaning.specs.Meaning.{meaning}
 
-abbrev renders : Event → List ℕ
-renders (wrote-int (pos n)) = 0 ∷ n ∷ []
-renders (wrote-int (negsuc n)) = 9 ∷ n ∷ []
-renders (wrote-bool true) = 1 ∷ 1 ∷ []
-renders (wrote-bool false) = 1 ∷ 0 ∷ []
-renders wrote-line = 2 ∷ 0 ∷ []
+abbrev renders : Event → List ℤ
+renders (wrote-int z) = pos 0 ∷ z ∷ []
+renders (wrote-bool true) = pos 1 ∷ pos 1 ∷ []
+renders (wrote-bool false) = pos 1 ∷ pos 0 ∷ []
+renders wrote-line = pos 2 ∷ pos 0 ∷ []
 
 abbrev host : Host
 host = record { items = []; marks = []; room = 100; renders = renders }
 
 -- what is seen at the end: 0 if it is done, 1 if it is cut off, else the fault; the count; the marks written; and the open objects
-abbrev seen : Outcome Unit → List ℕ × List ℕ × List Object
+abbrev seen : Outcome Unit → List ℕ × List ℤ × List Object
 seen (done _ s) = (0 ∷ s .count ∷ [], s .host .marks, s .objects)
 seen (cut s) = (1 ∷ s .count ∷ [], s .host .marks, s .objects)
 seen (fault f s) = (f ∷ s .count ∷ [], s .host .marks, s .objects)
@@ -51,7 +52,7 @@ sum = Rule.block (Rule.local 1 (Rule.proc (Rule.by-value 1 ∷ Rule.by-reference
     (Rule.call 0 (Rule.value (Rule.literal (pos 3)) ∷ Rule.address (Rule.variable 1) ∷ []) ⨾ show (Rule.variable 1) ⨾ Rule.nothing)
 
 -- 19 cells suffice for its calls
-sum-means : seen (meaning 200 sum 19 host) ≡ (0 ∷ 113 ∷ [], 0 ∷ 6 ∷ [], (pos 6 ∷ []) ∷ [])
+sum-means : seen (meaning 200 sum 19 host) ≡ (0 ∷ 113 ∷ [], pos 0 ∷ pos 6 ∷ [], (pos 6 ∷ []) ∷ [])
 sum-means = refl
 
 -- 18 do not: the last of four calls faults; r and three formals n are open, an object each
@@ -69,7 +70,7 @@ siblings = Rule.block (Rule.local 1 Rule.none)
     ⨾ Rule.inner (Rule.block (Rule.local 1 Rule.none) (show (Rule.variable 0) ⨾ set (Rule.variable 1) (Rule.literal (pos 7)) ⨾ Rule.nothing))
     ⨾ show (Rule.variable 0) ⨾ Rule.nothing)
 
-siblings-mean : seen (meaning 100 siblings 4 host) ≡ (0 ∷ 20 ∷ [], 0 ∷ 0 ∷ 0 ∷ 7 ∷ [], (pos 7 ∷ []) ∷ [])
+siblings-mean : seen (meaning 100 siblings 4 host) ≡ (0 ∷ 20 ∷ [], pos 0 ∷ pos 0 ∷ pos 0 ∷ pos 7 ∷ [], (pos 7 ∷ []) ∷ [])
 siblings-mean = refl
 
 -- {int x; int[3] a; int y && @ a[1] = 4; @ y = 9; @ x = 1}: no variable is another

@@ -7,7 +7,9 @@ use lib.ListN.{length, getD, set, take, drop}
 use lib.Dec.{leb}
 use Rattle.meaning.specs.Rule.{Formal, Block}
 use Rattle.machine.specs.Ints.{Answer, gives, faults, in-range, nat}
-use Rattle.machine.specs.Host.{Host, Item, Event}
+use Rattle.machine.specs.Host.{Host}
+use Rattle.machine.specs.declared.host.Item.{Item}
+use Rattle.machine.specs.declared.host.Event.{Event}
 
 abbrev pub Object : Type 0
 Object = List ℤ
@@ -111,7 +113,7 @@ hear (i ∷ is) f s = taken is (f i) s
 
 abbrev pub said : Event → State → Outcome Unit
 said e s =
-    let more : List ℕ = s .host .marks ++ s .host .renders e in
+    let more : List ℤ = s .host .marks ++ s .host .renders e in
     elim (leb (length more) (s .host .room)) [
       | true ↦ done tt (with-host s (record { items = s .host .items; marks = more; room = s .host .room; renders = s .host .renders }))
       | false ↦ fault 26 s

@@ -1,11 +1,8 @@
 ghost use Rattle.meaning.specs.Accepted.{Accepted-is-sound, Unbroken-is-accepted, Accepted-is-small};
 ghost use Rattle.meaning.specs.Agreement.{Agreement};
 ghost use Rattle.meaning.specs.MeaningAgreement.{Meaning-agrees, Objects-agree};
-
 ghost use Rattle.meaning.specs.Laws.{RunLaws, EvaluationLaws};
 ghost use Rattle.meaning.specs.Lives.{Lives-agree, Budgets-free, Runs-bounded, Steps-spend, Load-carries, Open-carries, Step-carries};
-
-
 
 // Holds the theorem: the evaluation of a sound rule and the run of its code, cut off anywhere, cannot be told apart.
 pub fn agreement_stands() -> u8
