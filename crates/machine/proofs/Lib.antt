@@ -1,1 +1,2 @@
 -- Proofs of the machine.
+pub mod Held

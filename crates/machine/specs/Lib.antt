@@ -2,6 +2,9 @@
 pub mod Instructions
 pub mod Shelves
 pub mod Ints
+pub mod Operators
+pub mod Faults
 pub mod Host
 pub mod Cells
 pub mod Machine
+pub mod Stacks
