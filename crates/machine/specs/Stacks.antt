@@ -14,6 +14,10 @@ use Rattle.machine.specs.Faults.{Failed}
 abbrev pub held : List ℤ → ℕ → List ℤ
 held items depth = reverse (take depth items)
 
+abbrev pub Roomy : List ℤ → Result Unit Fault → Type 0
+Roomy before (Ok _) = length before < 128
+Roomy before (Err f) = (f ≡ Operands) × (128 ≤ length before)
+
 abbrev pub Pushed : List ℤ → ℤ → Result Unit Fault → List ℤ → Type 0
 Pushed before v (Ok _) after = (length before < 128) × (after ≡ v ∷ before)
 Pushed before v (Err f) after = (f ≡ Operands) × (128 ≤ length before) × (after ≡ before)

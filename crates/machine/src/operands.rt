@@ -3,7 +3,7 @@ use crate::fault::Fault;
 ghost use mathlib.Core.Path.{_≡_};
 ghost use mathlib.Core.List.{[]};
 ghost use Prim.Native.Nat.{_≤_};
-ghost use Rattle.machine.specs.Stacks.{held, Pushed, Popped};
+ghost use Rattle.machine.specs.Stacks.{held, Roomy, Pushed, Popped};
 
 pub const MAX_OPERANDS: usize = 128;
 
@@ -24,6 +24,16 @@ impl Operands {
             items: [0; 128],
             depth: 0,
         }
+    }
+
+    // Whether there is room for one operand more; else a fault.
+    pub fn room(&self) -> Result<(), Fault>
+        ensures { λ r. ⌜ Roomy (held (now (self .entry) .items) (now (self .entry) .depth)) r ⌝ }
+    {
+        if self.depth >= MAX_OPERANDS {
+            return Err(Fault::Operands);
+        }
+        Ok(())
     }
 
     // One operand more; a fault and no change where there are 128.
