@@ -11,8 +11,12 @@ use Rattle.machine.specs.declared.instruction.Instruction.{Instruction}
 use Rattle.machine.specs.declared.instruction.Instruction.the-variants.{Lit, Var, Off, Ld, St, Stk, Copy, Index, Add, Sub, Mul, Div, Mod, Neg, Not, And, Or, Lt, Le, Gt, Ge, Eq, Ne, Jmp, Jf, Geti, Getb, Puti, Putb, Nl, Zero, Frame, Enter, Leave, Dup, Pop, Stop}
 use Rattle.tiny.specs.Operators as Rule
 use Rattle.machine.specs.Ints.{Answer, gives, faults, unary-of, binary-of, is-zero, in-range, nat}
-use Rattle.machine.specs.Host.{Host, Item, number, unreadable, Event, wrote-int, wrote-bool, wrote-line, as-int, as-bool}
+use Rattle.machine.specs.declared.host.Item.{Item}
+use Rattle.machine.specs.declared.host.Event.{Event}
+use Rattle.machine.specs.declared.host.Event.the-variants.{Int as wrote-int, Bool as wrote-bool, Line as wrote-line}
+use Rattle.machine.specs.Host.{Host, as-int, as-bool}
 use Rattle.machine.specs.Cells.{zeroed, moved}
+pub use Rattle.machine.specs.Shelves.{fetched}
 
 pub record Machine : Type 0 where
   pub operands : List ℤ
@@ -83,7 +87,7 @@ get f m = one (m .operands) (λ a ops. heard (m .host .items) f (m .host) (λ z 
 
 abbrev pub say : Event → Machine → List ℤ → Effect
 say e m ops =
-    let more : List ℕ = m .host .marks ++ m .host .renders e in
+    let more : List ℤ = m .host .marks ++ m .host .renders e in
     cond (leb (length more) (m .host .room)) (goes (on-host m ops (m .cells) (record { items = m .host .items; marks = more; room = m .host .room; renders = m .host .renders }))) (fails 26)
 
 abbrev pub base : Machine → ℕ → ℕ
@@ -150,11 +154,6 @@ pub record Run : Type 0 where
   pub standing : Standing
   pub count : ℕ
   pub machine : Machine
-
-abbrev pub fetched : List Instruction → ℕ → Option Instruction
-fetched [] n = None
-fetched (i ∷ is) zero = Some i
-fetched (i ∷ is) (suc n) = fetched is n
 
 abbrev pub attempted : Option Instruction → Machine → Effect
 attempted None m = fails 41

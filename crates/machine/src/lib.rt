@@ -1,2 +1,10 @@
 // The machine that runs the code of rules.
+pub mod arithmetic;
+pub mod calculating;
+pub mod fault;
+pub mod flow;
+pub mod host;
 pub mod instruction;
+pub mod operands;
+pub mod registers;
+pub mod shelf;

@@ -12,7 +12,9 @@ use Rattle.machine.specs.declared.instruction.Instruction.the-variants.{Copy, J
 use Rattle.meaning.specs.Rule.{Place, Value, Argument, Formal, Action, Actions, Block}
 use Rattle.meaning.specs.Rule as Rule
 use Rattle.machine.specs.Ints.{Answer, is-zero}
-use Rattle.machine.specs.Host.{Item, Event, wrote-int, wrote-bool, wrote-line}
+use Rattle.machine.specs.declared.host.Item.{Item}
+use Rattle.machine.specs.declared.host.Event.{Event}
+use Rattle.machine.specs.declared.host.Event.the-variants.{Int as wrote-int, Bool as wrote-bool, Line as wrote-line}
 use Rattle.meaning.specs.Evaluation.{World, Outcome, done, cut, fault, _>>=_, _>>_, charge, return, save, move, hear, said, as-int, as-bool, Env, own-cells, act, act-all, run-block, found, called, ranked, own-size, actions-extent}
 use Rattle.meaning.specs.Evaluation as Evaluation
 use Rattle.machine.specs.Machine.{Machine, fetched, effect, get, say}

@@ -6,7 +6,9 @@ use lib.IntN.{ℤ, pos, negsuc, _+ℤ_, _-ℤ_, _*ℤ_, negℤ}
 use lib.Signed.{quotZ, remZ, mag}
 use lib.Dec.{ltb}
 use Rattle.machine.specs.Ints.{Answer, gives, faults, unary-of, binary-of, is-zero, fit, unless-zero}
-use Rattle.machine.specs.Host.{Item, number, unreadable, as-int, as-bool, bit}
+use Rattle.machine.specs.Host.{as-int, as-bool, bit}
+use Rattle.machine.specs.declared.host.Item.{Item}
+use Rattle.machine.specs.declared.host.Item.the-variants.{Number as number, Unreadable as unreadable}
 use Rattle.meaning.specs.Rule.{Unary, Binary}
 use Rattle.meaning.specs.Rule as Rule
 

@@ -13,7 +13,10 @@ use Rattle.machine.specs.declared.instruction.Instruction.{Instruction}
 use Rattle.machine.specs.declared.instruction.Instruction.the-variants.{Lit, Var, Off, Ld, St, Stk, Copy, Index, Add, Sub, Mul, Div, Mod, Neg, Not, And, Or, Lt, Le, Gt, Ge, Eq, Ne, Jmp, Jf, Geti, Getb, Puti, Putb, Nl, Zero, Frame, Enter, Leave, Dup, Pop, Stop}
 use Rattle.meaning.specs.Rule as Rule
 use Rattle.machine.specs.Ints.{Answer, gives, faults, unary-of, binary-of, is-zero}
-use Rattle.machine.specs.Host.{Host, Item, Event, wrote-int, wrote-bool, wrote-line}
+use Rattle.machine.specs.Host.{Host}
+use Rattle.machine.specs.declared.host.Item.{Item}
+use Rattle.machine.specs.declared.host.Event.{Event}
+use Rattle.machine.specs.declared.host.Event.the-variants.{Int as wrote-int, Bool as wrote-bool, Line as wrote-line}
 use Rattle.meaning.specs.Evaluation.{zeroed, moved, as-int, as-bool, in-range}
 use Rattle.machine.specs.Machine.{Machine, Effect, goes, stops, fails, on, jump, one, two, room, made, within, settled, heard, get, say, base, link, unary, binary, effect, Standing, going, finished, failed, Run, fetched, attempted, after, one-more, run}
 use Rattle.meaning.specs.Laws.{Memory-kept}

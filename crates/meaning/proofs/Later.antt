@@ -8,7 +8,10 @@ use lib.IntN.{ℤ, pos}
 use lib.ListN.{length, take, replicate}
 use lib.Dec.{leb}
 use Rattle.machine.specs.Ints.{Answer, gives, faults, unary-of, binary-of, is-zero, in-range, nat}
-use Rattle.machine.specs.Host.{Item, Event, wrote-int, wrote-bool, wrote-line, as-int, as-bool}
+use Rattle.machine.specs.Host.{as-int, as-bool}
+use Rattle.machine.specs.declared.host.Item.{Item}
+use Rattle.machine.specs.declared.host.Event.{Event}
+use Rattle.machine.specs.declared.host.Event.the-variants.{Int as wrote-int, Bool as wrote-bool, Line as wrote-line}
 use Rattle.meaning.specs.Rule.{Place, Value, Argument, Formal, Action, Actions, Declarations, Block}
 use Rattle.meaning.specs.Rule as Rule
 use Rattle.meaning.specs.Sizes.{own-size, frame-size}

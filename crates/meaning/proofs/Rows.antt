@@ -11,7 +11,9 @@ use Rattle.std.specs.declared.option.Option.the-variants.{Some}
 use Rattle.machine.specs.declared.instruction.Instruction.{Instruction}
 use Rattle.machine.specs.declared.instruction.Instruction.the-variants.{Copy, Jmp, Jf, Zero}
 use Rattle.machine.specs.Ints.{Answer, gives, faults, is-zero}
-use Rattle.machine.specs.Host.{Host, Item, Event}
+use Rattle.machine.specs.Host.{Host}
+use Rattle.machine.specs.declared.host.Item.{Item}
+use Rattle.machine.specs.declared.host.Event.{Event}
 use Rattle.meaning.specs.Evaluation.{World, Outcome, done, cut, fault, _>>=_, _>>_, charge, return, save, move, clear, hear, taken, said, own-cells, zeroed, moved}
 use Rattle.machine.specs.Machine.{Machine, Effect, goes, fails, fetched, after, effect, within, on, on-cells, on-host, jump, one, get, say, heard, settled}
 use Rattle.meaning.specs.Code.{zeroing, own-length}

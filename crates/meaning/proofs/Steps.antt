@@ -11,7 +11,10 @@ use Rattle.meaning.specs.Rule.{Block, Place, Value, Argument, Formal, Action, 
 use Rattle.meaning.specs.Rule as Rule
 use Rattle.machine.specs.Ints.{Answer, gives, is-zero}
 use Rattle.machine.specs.Ints as Ints
-use Rattle.machine.specs.Host.{Host, Item, Event, wrote-int, wrote-bool, wrote-line}
+use Rattle.machine.specs.Host.{Host}
+use Rattle.machine.specs.declared.host.Item.{Item}
+use Rattle.machine.specs.declared.host.Event.{Event}
+use Rattle.machine.specs.declared.host.Event.the-variants.{Int as wrote-int, Bool as wrote-bool, Line as wrote-line}
 use Rattle.meaning.specs.Evaluation.{World, own-size, formals-size, frame-size, action-extent, actions-extent, block-extent, zeroed, as-int, as-bool}
 use Rattle.meaning.specs.Evaluation as Evaluation
 use Rattle.meaning.specs.Objects.{State}

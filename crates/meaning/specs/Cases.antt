@@ -9,7 +9,9 @@ use Rattle.std.specs.declared.option.Option.{Option}
 use Rattle.std.specs.declared.option.Option.the-variants.{Some, None}
 use Rattle.tiny.specs.Tree.{BlockTree}
 use Rattle.machine.specs.declared.instruction.Instruction.the-variants.{Lit, Var, Ld, Stk, Puti, Zero, Frame, Pop, Stop}
-use Rattle.machine.specs.Host.{Host, Event, wrote-int, wrote-bool, wrote-line}
+use Rattle.machine.specs.Host.{Host}
+use Rattle.machine.specs.declared.host.Event.{Event}
+use Rattle.machine.specs.declared.host.Event.the-variants.{Int as wrote-int, Bool as wrote-bool, Line as wrote-line}
 use Rattle.machine.specs.Machine.{Standing, going, finished, failed, Run, run, opened}
 use Rattle.meaning.specs.Rule.{Block}
 use Rattle.meaning.specs.Rule as Rule
@@ -22,17 +24,14 @@ use Rattle.meaning.specs.Agreement.{standing-of, outermost-cells}
 use Rattle.meaning.specs.Lives.{Source, Tie, runs, Life, rule-of-tree}
 use Rattle.meaning.specs.CaseTrees.{empty, three, early, below, chain, inside, outside, siblings, sum, turns, copies, twice, tight, clash}
 
-abbrev Mark : Type 0
-Mark = ℕ
+-- an int as 0 and itself, a bool as 1 and 0 or 1, a new line as 2 and 0
+abbrev renders : Event → List ℤ
+renders (wrote-int z) = pos 0 ∷ z ∷ []
+renders (wrote-bool true) = pos 1 ∷ pos 1 ∷ []
+renders (wrote-bool false) = pos 1 ∷ pos 0 ∷ []
+renders wrote-line = pos 2 ∷ pos 0 ∷ []
 
-abbrev renders : Event → List Mark
-renders (wrote-int (pos n)) = 0 ∷ n ∷ []
-renders (wrote-int (negsuc n)) = 9 ∷ n ∷ []
-renders (wrote-bool true) = 1 ∷ 1 ∷ []
-renders (wrote-bool false) = 1 ∷ 0 ∷ []
-renders wrote-line = 2 ∷ 0 ∷ []
-
-abbrev rendered : List Event → List Mark
+abbrev rendered : List Event → List ℤ
 rendered [] = []
 rendered (e ∷ es) = renders e ++ rendered es
 

@@ -9,7 +9,10 @@ use lib.Dec.{leb, eqb}
 use Rattle.meaning.specs.Rule.{Place, Value, Argument, Formal, Action, Actions, Declarations, Block}
 use Rattle.meaning.specs.Rule as Rule
 use Rattle.machine.specs.Ints.{Answer, gives, faults, unary-of, binary-of, is-zero}
-use Rattle.machine.specs.Host.{Host, Item, Event, wrote-int, wrote-bool, wrote-line}
+use Rattle.machine.specs.Host.{Host}
+use Rattle.machine.specs.declared.host.Item.{Item}
+use Rattle.machine.specs.declared.host.Event.{Event}
+use Rattle.machine.specs.declared.host.Event.the-variants.{Int as wrote-int, Bool as wrote-bool, Line as wrote-line}
 pub use Rattle.meaning.specs.Sizes.{formal-size, formals-size, own-size, block-extent, actions-extent, action-extent, frame-size}
 pub use Rattle.machine.specs.Cells.{zeroed, moved}
 pub use Rattle.machine.specs.Ints.{in-range, nat}

@@ -12,7 +12,8 @@ use lib.Dec.{leb, eqb}
 use Rattle.meaning.specs.Rule.{Place, Value, Argument, Formal, Action, Actions, Declarations, Block}
 use Rattle.meaning.specs.Rule as Rule
 use Rattle.machine.specs.Ints.{unary-of, binary-of, is-zero}
-use Rattle.machine.specs.Host.{Host, wrote-int, wrote-bool, wrote-line, as-int, as-bool}
+use Rattle.machine.specs.Host.{Host, as-int, as-bool}
+use Rattle.machine.specs.declared.host.Event.the-variants.{Int as wrote-int, Bool as wrote-bool, Line as wrote-line}
 use Rattle.meaning.specs.Sizes.{own-size, frame-size}
 use Rattle.meaning.specs.Objects.{State, Outcome, done, cut, fault, _>>=_, _>>_, return, Reference, beyond, Binding, names, procedure, Env, reference-of, new, part, load, save, move, scoped, settle, indexed, hear, said, contents}
 

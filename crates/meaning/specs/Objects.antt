@@ -7,7 +7,9 @@ use lib.ListN.{length, getD, set, take, drop}
 use lib.Dec.{leb}
 use Rattle.meaning.specs.Rule.{Formal, Block}
 use Rattle.machine.specs.Ints.{Answer, gives, faults, in-range, nat}
-use Rattle.machine.specs.Host.{Host, Item, Event}
+use Rattle.machine.specs.Host.{Host}
+use Rattle.machine.specs.declared.host.Item.{Item}
+use Rattle.machine.specs.declared.host.Event.{Event}
 
 abbrev pub Object : Type 0
 Object = List ℤ

@@ -1,0 +1,2 @@
+-- Proofs of the hosts.
+pub mod Items

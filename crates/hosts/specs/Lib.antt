@@ -1,0 +1,2 @@
+-- Definitions of the hosts.
+pub mod Numbers

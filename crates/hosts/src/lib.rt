@@ -1,0 +1,2 @@
+// Hosts over lent slices.
+pub mod numbers;

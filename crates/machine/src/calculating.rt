@@ -1,0 +1,139 @@
+// Instructions that change the operands and nothing else.
+use crate::arithmetic::Operator;
+use crate::arithmetic::combine;
+use crate::arithmetic::is_true;
+use crate::arithmetic::negate;
+use crate::arithmetic::truth;
+use crate::fault::Fault;
+use crate::operands::Operands;
+ghost use mathlib.Core.Path.{_≡_};
+ghost use mathlib.Core.Bool.{not};
+ghost use Prim.Native.Nat.{ℕ, _+_};
+ghost use lib.IntN.{pos, _+ℤ_, _*ℤ_, negℤ};
+ghost use Rattle.tiny.specs.Operators as Rule;
+ghost use Rattle.machine.specs.Ints.{unary-of, binary-of};
+ghost use Rattle.machine.specs.Operators.{rule};
+ghost use Rattle.machine.specs.Faults.{Answered};
+ghost use Rattle.machine.specs.Stacks.{Became};
+ghost use Rattle.machine.specs.Running.{operands-of};
+ghost use Rattle.machine.specs.Calculations.{with-one, with-two, answered, pushed, address, content, variable, beyond, loaded, element, indexed, doubled, dropped};
+
+// A number as an address.
+pub fn address(value: i64) -> Result<i32, Fault>
+    ensures { λ r. ⌜ Answered (address value) r ⌝ }
+{
+    if 0 <= value && value <= 2147483647 {
+        Ok(value as i32)
+    } else {
+        Err(Fault::Address)
+    }
+}
+
+// The content of a cell.
+pub fn content(cells: &[i32], at: i32) -> Result<i32, Fault>
+    ensures { λ r. ⌜ Answered (content (now (cells .entry)) at) r ⌝ }
+{
+    if at < 0 || at as usize >= cells.len() {
+        return Err(Fault::Address);
+    }
+    Ok(cells[at as usize])
+}
+
+// The address of element `index` of `count` that take `size` cells each.
+fn element(count: u32, size: u32, start: i32, index: i32) -> Result<i32, Fault>
+    ensures { λ r. ⌜ Answered (element count size start index) r ⌝ }
+{
+    if index < 0 || index as u32 >= count {
+        return Err(Fault::Bounds);
+    }
+    let distance = index as i64 * size as i64;
+    address(start as i64 + distance)
+}
+
+// One operand more, if there are not yet 128.
+pub fn push(operands: &mut Operands, value: i32) -> Result<(), Fault>
+    ensures { λ r. ⌜ Became (pushed value (operands-of (now (operands .entry)))) r (operands-of (now (operands .exit))) ⌝ }
+{
+    operands.push(value)
+}
+
+// The address of a cell of a frame.
+pub fn push_address(operands: &mut Operands, base: u32, at: u32) -> Result<(), Fault>
+    ensures { λ r. ⌜ Became (variable (base + at) (operands-of (now (operands .entry)))) r (operands-of (now (operands .exit))) ⌝ }
+{
+    operands.room()?;
+    let value = address(base as i64 + at as i64)?;
+    operands.push(value)
+}
+
+// The address `count` cells on.
+pub fn offset(operands: &mut Operands, count: u32) -> Result<(), Fault>
+    ensures { λ r. ⌜ Became (beyond count (operands-of (now (operands .entry)))) r (operands-of (now (operands .exit))) ⌝ }
+{
+    let start = operands.pop()?;
+    let value = address(start as i64 + count as i64)?;
+    operands.push(value)
+}
+
+// The address becomes the content of its cell.
+pub fn load(operands: &mut Operands, cells: &[i32]) -> Result<(), Fault>
+    ensures { λ r. ⌜ Became (loaded (now (cells .entry)) (operands-of (now (operands .entry)))) r (operands-of (now (operands .exit))) ⌝ }
+{
+    let at = operands.pop()?;
+    let value = content(cells, at)?;
+    operands.push(value)
+}
+
+// An array's address and an index become the element's address.
+pub fn index(operands: &mut Operands, count: u32, size: u32) -> Result<(), Fault>
+    ensures { λ r. ⌜ Became (indexed count size (operands-of (now (operands .entry)))) r (operands-of (now (operands .exit))) ⌝ }
+{
+    let index = operands.pop()?;
+    let start = operands.pop()?;
+    let value = element(count, size, start, index)?;
+    operands.push(value)
+}
+
+// Two operands become one.
+pub fn binary(operands: &mut Operands, operator: Operator) -> Result<(), Fault>
+    ensures { λ r. ⌜ Became (with-two (operands-of (now (operands .entry))) (λ x y rest. answered (binary-of (rule operator) x y) rest)) r (operands-of (now (operands .exit))) ⌝ }
+{
+    let y = operands.pop()?;
+    let x = operands.pop()?;
+    let value = combine(operator, x, y)?;
+    operands.push(value)
+}
+
+// The sign is turned.
+pub fn negative(operands: &mut Operands) -> Result<(), Fault>
+    ensures { λ r. ⌜ Became (with-one (operands-of (now (operands .entry))) (λ x rest. answered (unary-of Rule.neg x) rest)) r (operands-of (now (operands .exit))) ⌝ }
+{
+    let x = operands.pop()?;
+    let value = negate(x)?;
+    operands.push(value)
+}
+
+// A truth value is turned.
+pub fn opposite(operands: &mut Operands) -> Result<(), Fault>
+    ensures { λ r. ⌜ Became (with-one (operands-of (now (operands .entry))) (λ x rest. answered (unary-of Rule.not x) rest)) r (operands-of (now (operands .exit))) ⌝ }
+{
+    let x = operands.pop()?;
+    operands.push(truth(!is_true(x)))
+}
+
+// The newest operand stands twice.
+pub fn double(operands: &mut Operands) -> Result<(), Fault>
+    ensures { λ r. ⌜ Became (doubled (operands-of (now (operands .entry)))) r (operands-of (now (operands .exit))) ⌝ }
+{
+    let x = operands.pop()?;
+    operands.push(x)?;
+    operands.push(x)
+}
+
+// The newest operand goes.
+pub fn discard(operands: &mut Operands) -> Result<(), Fault>
+    ensures { λ r. ⌜ Became (dropped (operands-of (now (operands .entry)))) r (operands-of (now (operands .exit))) ⌝ }
+{
+    operands.pop()?;
+    Ok(())
+}

@@ -1,0 +1,2 @@
+-- Proofs of the shelves.
+pub mod Codes

@@ -1,0 +1,2 @@
+// Shelves for code over lent slices.
+pub mod record;
