@@ -10,6 +10,7 @@ pub mod Stages
 pub mod Sound
 pub mod Small
 pub mod Accepted
+pub mod Lawful
 pub mod Agreement
 pub mod Halves
 pub mod Laws

@@ -5,6 +5,7 @@ ghost use Rattle.meaning.specs.Accepted.{Accepted-is-sound, Unbroken-is-accept
 ghost use Rattle.meaning.specs.Agreement.{Meaning-agrees, Accepted-trees-agree, Charges-are-instructions};
 ghost use Rattle.meaning.specs.Cases.{WorkedCases};
 ghost use Rattle.meaning.specs.Halves.{Objects-agree, Addresses-agree};
+ghost use Rattle.meaning.specs.Lawful.{Accepted-is-lawful};
 ghost use Rattle.meaning.specs.Laws.{RunLaws};
 ghost use Rattle.meaning.specs.MeaningLaws.{MeaningLaws};
 ghost use Rattle.meaning.specs.Lives.{Lives-agree, Judged-rules-sound, Budgets-free, Runs-bounded, Steps-spend, Load-carries, Open-carries, Step-carries};
@@ -58,6 +59,13 @@ pub fn unbroken_is_accepted() -> u8
 // In a rule that the checks accept no size, offset or frame is over 65,536 cells.
 pub fn accepted_is_small() -> u8
     ensures { λ _. ⌜ Accepted-is-small ⌝ }
+{
+    0
+}
+
+// Every instruction of an accepted rule's code is lawful, so that a shelf takes it.
+pub fn accepted_is_lawful() -> u8
+    ensures { λ _. ⌜ Accepted-is-lawful ⌝ }
 {
     0
 }
