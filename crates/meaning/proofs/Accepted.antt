@@ -24,7 +24,7 @@ accepted-small P z o t b w e =
     let p = passed t b e in subst (SmallProgram P z o) (p .made) (program-small P z o t w (nil (p .large)))
 
 -- what is left of the judgement where a stage finds nothing
-unbroken : (t : BlockTree) → deep-block t 1 0 ≡ [] → names-block t [] ≡ [] → kinds-block t [] ≡ [] → large-program t ≡ [] → (b : Block) × (judged t ≡ accepted b)
+pub unbroken : (t : BlockTree) → deep-block t 1 0 ≡ [] → names-block t [] ≡ [] → kinds-block t [] ≡ [] → large-program t ≡ [] → (b : Block) × (judged t ≡ accepted b)
 unbroken t d n k l = let c = complete t n k in (c .0, rw (d, n, k, l, c .1))
 
 never : (t : BlockTree) → judged t ≡ one-of [] → ⊥

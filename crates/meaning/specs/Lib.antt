@@ -9,6 +9,7 @@ pub mod Code
 pub mod Stages
 pub mod Sound
 pub mod Small
+pub mod Typing
 pub mod Accepted
 pub mod Lawful
 pub mod Agreement

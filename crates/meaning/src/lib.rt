@@ -8,6 +8,7 @@ ghost use Rattle.meaning.specs.Halves.{Objects-agree, Addresses-agree};
 ghost use Rattle.meaning.specs.Lawful.{Accepted-is-lawful};
 ghost use Rattle.meaning.specs.Laws.{RunLaws};
 ghost use Rattle.meaning.specs.MeaningLaws.{MeaningLaws};
+ghost use Rattle.meaning.specs.Typing.{Accepted-is-typed, Typed-is-accepted};
 ghost use Rattle.meaning.specs.Lives.{Lives-agree, Judged-rules-sound, Budgets-free, Runs-bounded, Steps-spend, Load-carries, Open-carries, Step-carries};
 
 // For every tree that the checks accept, every memory, host and n: the meaning cut off at n and n instructions of the
@@ -45,6 +46,14 @@ pub fn addresses_stand() -> u8
 // 8 procedures nest, and no evaluation needs more than 128 operands.
 pub fn accepted_is_sound() -> u8
     ensures { λ _. ⌜ Accepted-is-sound ⌝ }
+{
+    0
+}
+
+// A tree is accepted exactly if it is well typed, rule by rule, and no stage finds a break of depth, names or sizes.
+pub fn accepted_is_typed() -> u8
+    ensures typed { λ _. ⌜ Accepted-is-typed ⌝ }
+    ensures accepted { λ _. ⌜ Typed-is-accepted ⌝ }
 {
     0
 }
