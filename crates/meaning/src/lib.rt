@@ -5,8 +5,10 @@ ghost use Rattle.meaning.specs.Accepted.{Accepted-is-sound, Unbroken-is-accept
 ghost use Rattle.meaning.specs.Agreement.{Meaning-agrees, Accepted-trees-agree, Charges-are-instructions};
 ghost use Rattle.meaning.specs.Cases.{WorkedCases};
 ghost use Rattle.meaning.specs.Halves.{Objects-agree, Addresses-agree};
+ghost use Rattle.meaning.specs.Lawful.{Accepted-is-lawful};
 ghost use Rattle.meaning.specs.Laws.{RunLaws};
 ghost use Rattle.meaning.specs.MeaningLaws.{MeaningLaws};
+ghost use Rattle.meaning.specs.Typing.{Accepted-is-typed, Typed-is-accepted};
 ghost use Rattle.meaning.specs.Lives.{Lives-agree, Judged-rules-sound, Budgets-free, Runs-bounded, Steps-spend, Load-carries, Open-carries, Step-carries};
 
 // For every tree that the checks accept, every memory, host and n: the meaning cut off at n and n instructions of the
@@ -48,6 +50,14 @@ pub fn accepted_is_sound() -> u8
     0
 }
 
+// A tree is accepted exactly if it is well typed, rule by rule, and no stage finds a break of depth, names or sizes.
+pub fn accepted_is_typed() -> u8
+    ensures typed { λ _. ⌜ Accepted-is-typed ⌝ }
+    ensures accepted { λ _. ⌜ Typed-is-accepted ⌝ }
+{
+    0
+}
+
 // A tree in which no stage finds a break is accepted.
 pub fn unbroken_is_accepted() -> u8
     ensures { λ _. ⌜ Unbroken-is-accepted ⌝ }
@@ -58,6 +68,13 @@ pub fn unbroken_is_accepted() -> u8
 // In a rule that the checks accept no size, offset or frame is over 65,536 cells.
 pub fn accepted_is_small() -> u8
     ensures { λ _. ⌜ Accepted-is-small ⌝ }
+{
+    0
+}
+
+// Every instruction of an accepted rule's code is lawful, so that a shelf takes it.
+pub fn accepted_is_lawful() -> u8
+    ensures { λ _. ⌜ Accepted-is-lawful ⌝ }
 {
     0
 }
