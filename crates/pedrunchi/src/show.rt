@@ -5,6 +5,7 @@ use reports::lines::locate;
 use std::fs;
 use std::io;
 use std::io::Write;
+use tiny::scanner::MOST_BYTES;
 
 // The bytes of a source file.
 pub fn source(rt: &LibcRuntime, path: &str) -> Result<Vec<u8>, Ended> {
@@ -24,7 +25,7 @@ pub fn bytes(rt: &LibcRuntime, text: &[u8]) -> io::Result<()> {
 
 // The line of a place, and a caret under the place. A tab stays a tab, and the later bytes of a
 // character take no room.
-pub fn caret(rt: &LibcRuntime, source: &[u8], place: usize) -> io::Result<()> {
+fn caret(rt: &LibcRuntime, source: &[u8], place: usize) -> io::Result<()> {
     let location = locate(source, place);
     bytes(rt, stretch(source, location.start, location.end))?;
     println!(rt, "")?;
@@ -36,6 +37,26 @@ pub fn caret(rt: &LibcRuntime, source: &[u8], place: usize) -> io::Result<()> {
         }
     }
     println!(rt, "^")
+}
+
+// A refusal: its number, what it means, where it is, and the line of the source. The line of a source
+// that is too long is not shown.
+pub fn refusal(
+    rt: &LibcRuntime,
+    source: &[u8],
+    number: u8,
+    words: &str,
+    place: usize,
+) -> io::Result<()> {
+    let location = locate(source, place);
+    let line = location.line;
+    let column = location.column;
+    println!(rt, "refused, number {number}: {words}")?;
+    println!(rt, "at place {place}, line {line}, column {column}")?;
+    if source.len() > MOST_BYTES {
+        return Ok(());
+    }
+    caret(rt, source, place)
 }
 
 // A stretch of the source.

@@ -6,8 +6,6 @@ use reports::lines::locate;
 use reports::words::cause_in_words;
 use reports::words::class_in_words;
 use std::io;
-use tiny::faults::ScanCause;
-use tiny::faults::ScanFault;
 use tiny::scanner::Scanner;
 use tiny::scanner::count_tokens;
 use tiny::tokens::Token;
@@ -18,7 +16,8 @@ pub fn list(rt: &LibcRuntime, source: &[u8]) -> Result<(), Ended> {
     let count = match count_tokens(source) {
         Ok(count) => count,
         Err(fault) => {
-            refusal(rt, source, fault)?;
+            let words = cause_in_words(fault.what);
+            show::refusal(rt, source, fault.what.number(), words, fault.place)?;
             return Err(Ended::Refused);
         }
     };
@@ -45,20 +44,4 @@ fn row(rt: &LibcRuntime, source: &[u8], token: Token) -> io::Result<()> {
     )?;
     show::bytes(rt, show::stretch(source, token.place, token.what.end))?;
     println!(rt, "")
-}
-
-// A refusal: its number, what it means, where it is, and the line of the source.
-fn refusal(rt: &LibcRuntime, source: &[u8], fault: ScanFault) -> io::Result<()> {
-    let number = fault.what.number();
-    let words = cause_in_words(fault.what);
-    let place = fault.place;
-    let location = locate(source, place);
-    let line = location.line;
-    let column = location.column;
-    println!(rt, "refused, number {number}: {words}")?;
-    println!(rt, "at place {place}, line {line}, column {column}")?;
-    if let ScanCause::TooLong = fault.what {
-        return Ok(());
-    }
-    show::caret(rt, source, place)
 }
