@@ -1,1 +1,4 @@
 pub mod Scanning
+pub mod Stand
+pub mod Ways
+pub mod Levels

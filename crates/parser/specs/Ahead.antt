@@ -30,10 +30,16 @@ abbrev pub stands : List Kind → List Token → Bool
 stands ks [] = false
 stands ks (t ∷ ts) = among (t .kind) ks
 
+-- a token of one of these kinds was taken, the first of those ahead
+pub record Took (ks : List Kind) (c : Cursor) (t : Placed Lexeme) (c′ : Cursor) : Type 0 where
+  pub source : source-of c′ ≡ source-of c
+  pub first : ahead c ≡ token-in (source-of c) t ∷ ahead c′
+  pub kind : among (t .what .kind) ks ≡ true
+
 -- a token was taken, or there is none of these kinds
 abbrev pub Taken : List Kind → Cursor → Option (Placed Lexeme) → Cursor → Type 0
 Taken ks c None c′ = (c′ ≡ c) × (stands ks (ahead c) ≡ false)
-Taken ks c (Some t) c′ = (source-of c′ ≡ source-of c) × (ahead c ≡ token-in (source-of c) t ∷ ahead c′) × (among (t .what .kind) ks ≡ true)
+Taken ks c (Some t) c′ = Took ks c t c′
 
 -- where a refusal stands: at the first token that is left, or at the end of the source
 abbrev pub place-of : List ℕ → List Token → ℕ
@@ -44,5 +50,5 @@ abbrev pub refusal : List ℕ → List Token → ParseFault
 refusal source ts = Syntax (record { what = Unexpected; place = place-of source ts })
 
 abbrev pub Expected : List Kind → Cursor → Result (Placed Lexeme) ParseFault → Cursor → Type 0
-Expected ks c (Ok t) c′ = Taken ks c (Some t) c′
-Expected ks c (Err f) c′ = Taken ks c None c′ × (f ≡ refusal (source-of c) (ahead c))
+Expected ks c (Ok t) c′ = Took ks c t c′
+Expected ks c (Err f) c′ = (c′ ≡ c) × (stands ks (ahead c) ≡ false) × (f ≡ refusal (source-of c) (ahead c))

@@ -1,3 +1,3 @@
 pub mod Rest
 pub mod Ahead
-
+pub mod Reading

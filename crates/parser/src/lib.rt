@@ -1,3 +1,4 @@
 // From a source to a table that shows its tree.
 pub mod cursor;
+pub mod expressions;
 pub mod faults;

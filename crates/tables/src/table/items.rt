@@ -1,10 +1,10 @@
 // What a table does: it takes items at its end, hands them out, and lets the last ones go.
 ghost use mathlib.Core.Path.{_≡_};
-ghost use mathlib.Core.List.{[], _∷_, _++_};
+ghost use mathlib.Core.List.{[]};
 ghost use denote.Ref.{now};
 ghost use Prim.Native.Nat.{_<_, _≤_, _-_};
 ghost use lib.ListN.{length, take, getD};
-ghost use Rattle.tables.specs.Items.{items, capacity, item-at};
+ghost use Rattle.tables.specs.Items.{items, capacity, item-at, Pushed};
 use crate::table::Table;
 
 impl<'a, T: Copy> Table<'a, T> {
@@ -33,9 +33,7 @@ impl<'a, T: Copy> Table<'a, T> {
     // Adds an item, and says where it stands.
     pub fn push(&mut self, item: T) -> usize
         requires { ⌜ length (items (now self)) < capacity (now self) ⌝ }
-        ensures at { λ r. ⌜ r ≡ length (items (now (self .entry))) ⌝ }
-        ensures items { λ _. ⌜ items (now (self .exit)) ≡ items (now (self .entry)) ++ item ∷ [] ⌝ }
-        ensures room { λ _. ⌜ capacity (now (self .exit)) ≡ capacity (now (self .entry)) ⌝ }
+        ensures { λ r. ⌜ Pushed (now (self .entry)) item r (now (self .exit)) ⌝ }
     {
         let at = self.used;
         self.cells[at] = item;

@@ -7,7 +7,7 @@ pub returns : need.returns
 returns g c =
     let s = c .args .self .now in
     record {
-      at = used-is s (s .within);
-      items = take-more-set (s .cells .now) (s .used) (c .args .item) (used-below s (c .pre));
-      room = length-set (s .cells .now) (s .used) (c .args .item);
+      at-end = used-is s (s .within);
+      added = take-more-set (s .cells .now) (s .used) (c .args .item) (used-below s (c .pre));
+      kept = length-set (s .cells .now) (s .used) (c .args .item);
     }
