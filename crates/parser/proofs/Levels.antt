@@ -12,12 +12,12 @@ use Rattle.tiny.specs.declared.tokens.Lexeme.{Lexeme}
 use Rattle.tiny.specs.declared.placed.Placed.{Placed}
 use Rattle.tiny.specs.Token.{Token, is}
 use Rattle.tiny.specs.Scan.{token-in}
-use Rattle.syntax.specs.Grammar.{Sort}
+use Rattle.syntax.specs.Grammar.{Sort, Bracket}
 use Rattle.syntax.specs.Grammar.Sort.{E0, E1, E2, E3, E4, E5, E6, basic}
 use Rattle.syntax.specs.Parse.{Tail, Symbol, expect, further, behind, sort-rules, run, joined, undered, pushed, dropped}
-use Rattle.syntax.specs.Parse.Part.{tail}
+use Rattle.syntax.specs.Parse.Part.{tail, rest}
 use Rattle.syntax.specs.Parse.Tail.{Postfix?, Factor?, Logic?, Minus?, Plus?, Relation?, Assign?}
-use Rattle.syntax.specs.Parse.Symbol.{token, make}
+use Rattle.syntax.specs.Parse.Symbol.{token, part, make}
 use Rattle.syntax.proofs.Steps.{by-behind}
 use Rattle.tables.specs.declared.table.Table.{Table}
 use Rattle.tables.specs.declared.nodes.Node.{Node}
@@ -63,6 +63,9 @@ capping s k o = expect s ∷ make (undered o) ∷ []
 
 abbrev pub leafing : Kind → Token → List Symbol
 leafing k o = make (pushed o) ∷ []
+
+abbrev pub entering : Bracket → Kind → Token → List Symbol
+entering b k o = part (rest b o) ∷ []
 
 pub selected : {α : List Symbol} {c c₁ c₂ : Cursor} {n n₁ : Table Node} {ss : List Slot} {p r : ℕ} {t : Placed Lexeme} →
     Took (Index ∷ Dot ∷ []) c₁ t c₂ → Stand α c n (further Postfix? ∷ []) ss c₁ n₁ p r →

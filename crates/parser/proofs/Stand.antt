@@ -39,7 +39,7 @@ use Rattle.parser.specs.declared.cursor.Cursor.{Cursor}
 use Rattle.parser.specs.declared.faults.ParseFault.{ParseFault}
 use Rattle.parser.specs.Rest.{among}
 use Rattle.parser.specs.Ahead.{ahead, source-of, stands, refusal, Took, Expected}
-use Rattle.parser.specs.Reading.{Read, Refused, Upto}
+use Rattle.parser.specs.Reading.{Read, Refused, Upto, Room}
 use Rattle.parser.proofs.Scanning.{opposed}
 
 -- A tree that was read: record i shows it, or it has as yet no record for its token, a leaf or over one part.
@@ -380,3 +380,7 @@ done {α} {γ} {c} {c₁} {n} {n₁} s =
   where
     empty : {source : List ℕ} {ns : List Node} {ts : List Tree} → Held source ns [] ts → ts ≡ []
     empty none = refl
+
+-- a record that is paid for has room
+pub pays : {α γ : List Symbol} {c c₁ : Cursor} {n n₁ : Table Node} {ss : List Slot} {p r : ℕ} → Stand α c n γ ss c₁ n₁ (suc p) r → Room c n → length (items n₁) < capacity n₁
+pays s h = omega (arith, s .room, s .same, h)

@@ -1,4 +1,6 @@
 // From a source to a table that shows its tree.
+pub mod arguments;
 pub mod cursor;
 pub mod expressions;
 pub mod faults;
+pub mod types;
