@@ -1,7 +1,7 @@
 -- Where the levels of expressions begin, and what goes on from them.
 use mathlib.Core.Path.{_≡_, refl, sym, _∙_, ap, subst}
 use mathlib.Core.List.{List, [], _∷_, _++_}
-use mathlib.Core.Bool.{Bool, true, cond}
+use mathlib.Core.Bool.{Bool, true, false, cond}
 use Prim.Native.Nat.{ℕ, suc}
 use Rattle.std.proofs.shelf.Lists.{append-nil}
 use Rattle.std.specs.declared.result.Result.{Result}
@@ -13,20 +13,21 @@ use Rattle.tiny.specs.declared.placed.Placed.{Placed}
 use Rattle.tiny.specs.Token.{Token, is}
 use Rattle.tiny.specs.Scan.{token-in}
 use Rattle.syntax.specs.Grammar.{Sort, Bracket}
-use Rattle.syntax.specs.Grammar.Sort.{E0, E1, E2, E3, E4, E5, E6, basic}
-use Rattle.syntax.specs.Parse.{Tail, Symbol, expect, further, behind, sort-rules, run, joined, undered, pushed, dropped}
+use Rattle.syntax.specs.Grammar.Sort.{E0, E1, E2, E3, E4, E5, E6, basic, content, list}
+use Rattle.syntax.specs.Grammar.Listed.{statements, declarations}
+use Rattle.syntax.specs.Parse.{Tail, Symbol, expect, further, behind, sort-rules, list-rules, run, joined, undered, pushed, dropped, united}
 use Rattle.syntax.specs.Parse.Part.{tail, rest}
-use Rattle.syntax.specs.Parse.Tail.{Postfix?, Factor?, Logic?, Minus?, Plus?, Relation?, Assign?}
+use Rattle.syntax.specs.Parse.Tail.{Postfix?, Factor?, Logic?, Minus?, Plus?, Relation?, Assign?, Section, Statements?}
 use Rattle.syntax.specs.Parse.Symbol.{token, part, make}
-use Rattle.syntax.proofs.Steps.{by-behind}
+use Rattle.syntax.proofs.Steps.{by-behind, by-left, by-tail}
 use Rattle.tables.specs.declared.table.Table.{Table}
 use Rattle.tables.specs.declared.nodes.Node.{Node}
 use Rattle.parser.specs.declared.cursor.Cursor.{Cursor}
 use Rattle.parser.specs.declared.faults.ParseFault.{ParseFault}
-use Rattle.parser.specs.Ahead.{ahead, source-of, Took}
-use Rattle.parser.specs.Reading.{Read, Refused, Upto, Reads, selecting}
+use Rattle.parser.specs.Ahead.{ahead, source-of, stands, Took}
+use Rattle.parser.specs.Reading.{Read, Refused, Upto, Reads, selecting, instructing}
 use Rattle.parser.proofs.Stand.{Stand, Slot, start, by, call, took, done}
-use Rattle.parser.proofs.Ways.{fails}
+use Rattle.parser.proofs.Ways.{fails, gone, begun-with, only-right}
 
 -- a sort whose rules are those of another with something behind them
 pub opened : (s s′ : Sort) (γ : List Symbol) → ((t : Token) → sort-rules s′ t ≡ behind γ (sort-rules s t)) → (c : Cursor) (n : Table Node) →
@@ -86,3 +87,29 @@ pub handed : {α : List Symbol} {x : Symbol} {c c₁ : Cursor} {n n₁ : Table N
     Stand α c n (x ∷ []) [] c₁ n₁ p q → Reads (x ∷ []) c₁ n₁ r c₂ n₂ → Reads α c n r c₂ n₂
 handed (Ok i) c₂ n₂ s h = done (call h s)
 handed (Err f) c₂ n₂ s h = fails h s
+
+-- a block's content: instructions, or declarations first
+pub instructed : {α γ : List Symbol} {c c₁ : Cursor} {n n₁ : Table Node} {ss : List Slot} {p r : ℕ} →
+    stands instructing (ahead c₁) ≡ true → Stand α c n (expect content ∷ γ) ss c₁ n₁ p r → Stand α c n (expect (list statements) ∷ γ) ss c₁ n₁ p r
+instructed {γ = γ} {c₁ = c₁} e s =
+    by (expect (list statements) ∷ γ)
+    (λ β z. by-left (list statements) content (λ t. behind (further Section ∷ []) (list-rules declarations t)) (λ t. refl) (γ ++ β) z (ahead c₁)
+    (begun-with (list statements) instructing (λ t. refl) (ahead c₁) e)) s
+
+pub declared : {α γ : List Symbol} {c c₁ : Cursor} {n n₁ : Table Node} {ss : List Slot} {p r : ℕ} →
+    stands instructing (ahead c₁) ≡ false → Stand α c n (expect content ∷ γ) ss c₁ n₁ p r → Stand α c n (expect (list declarations) ∷ further Section ∷ γ) ss c₁ n₁ p r
+declared {γ = γ} {c₁ = c₁} e s =
+    by (expect (list declarations) ∷ further Section ∷ γ)
+    (λ β z. only-right (list declarations) content (further Section ∷ []) (list-rules statements) instructing (λ t. refl) (λ t. refl) (γ ++ β) z (ahead c₁) e) s
+
+-- behind the declarations: instructions, or none
+pub instructed-then : {α γ : List Symbol} {c c₁ : Cursor} {n n₁ : Table Node} {ss : List Slot} {p r : ℕ} →
+    stands instructing (ahead c₁) ≡ true → Stand α c n (further Statements? ∷ γ) ss c₁ n₁ p r → Stand α c n (expect (list statements) ∷ make united ∷ γ) ss c₁ n₁ p r
+instructed-then {γ = γ} {c₁ = c₁} e s =
+    by (expect (list statements) ∷ make united ∷ γ)
+    (λ β z. by-tail (list statements) Statements? (make united ∷ []) (λ t. refl) (γ ++ β) z (ahead c₁)
+    (begun-with (list statements) instructing (λ t. refl) (ahead c₁) e)) s
+
+pub nothing-then : {α γ : List Symbol} {c c₁ : Cursor} {n n₁ : Table Node} {ss : List Slot} {p r : ℕ} →
+    stands instructing (ahead c₁) ≡ false → Stand α c n (further Statements? ∷ γ) ss c₁ n₁ p r → Stand α c n γ ss c₁ n₁ p r
+nothing-then e s = gone Statements? instructing (λ t. refl) refl (refl, e) s

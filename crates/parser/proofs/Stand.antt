@@ -384,3 +384,6 @@ done {α} {γ} {c} {c₁} {n} {n₁} s =
 -- a record that is paid for has room
 pub pays : {α γ : List Symbol} {c c₁ : Cursor} {n n₁ : Table Node} {ss : List Slot} {p r : ℕ} → Stand α c n γ ss c₁ n₁ (suc p) r → Room c n → length (items n₁) < capacity n₁
 pays s h = omega (arith, s .room, s .same, h)
+
+pub roomy : {α γ : List Symbol} {c c₁ : Cursor} {n n₁ : Table Node} {ss : List Slot} {p r : ℕ} → Stand α c n γ ss c₁ n₁ p r → Room c n → Room c₁ n₁
+roomy s h = omega (arith, s .room, s .same, h)

@@ -52,3 +52,12 @@ refusal source ts = Syntax (record { what = Unexpected; place = place-of source 
 abbrev pub Expected : List Kind → Cursor → Result (Placed Lexeme) ParseFault → Cursor → Type 0
 Expected ks c (Ok t) c′ = Took ks c t c′
 Expected ks c (Err f) c′ = (c′ ≡ c) × (stands ks (ahead c) ≡ false) × (f ≡ refusal (source-of c) (ahead c))
+
+abbrev pub stopped : List Token → Bool
+stopped [] = false
+stopped (t ∷ ts) = true
+
+-- nothing is ahead, or a token is
+abbrev pub Ended : Cursor → Result (Unit {0}) ParseFault → Type 0
+Ended c (Ok u) = ahead c ≡ []
+Ended c (Err f) = (stopped (ahead c) ≡ true) × (f ≡ refusal (source-of c) (ahead c))

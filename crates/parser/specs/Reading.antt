@@ -8,7 +8,7 @@ use Rattle.std.specs.declared.result.Result.{Result}
 use Rattle.std.specs.declared.result.Result.the-variants.{Ok, Err}
 use Rattle.syntax.specs.Shape.{Tree}
 use Rattle.tiny.specs.declared.tokens.Kind.{Kind}
-use Rattle.tiny.specs.declared.tokens.Kind.the-variants.{Name, IndexEnd, Dot}
+use Rattle.tiny.specs.declared.tokens.Kind.the-variants.{Name, IndexEnd, Dot, Brace, At, IfWord, WhileWord, ReadWord, WriteWord, NlWord, CallWord}
 use Rattle.tiny.specs.Token.{is}
 use Rattle.syntax.specs.Grammar.Sort.{E0}
 use Rattle.syntax.specs.Parse.{Symbol, Stack, run, expect, pushed, dropped}
@@ -55,3 +55,7 @@ Reads α = Upto α []
 -- what stands behind a postfix operator: a name behind `.`, an expression and `]` behind `[`
 abbrev pub selecting : Kind → List Symbol
 selecting k = cond (is k Dot) (token Name pushed ∷ []) (expect E0 ∷ token IndexEnd dropped ∷ [])
+
+-- what an instruction begins with
+abbrev pub instructing : List Kind
+instructing = Brace ∷ At ∷ IfWord ∷ WhileWord ∷ ReadWord ∷ WriteWord ∷ NlWord ∷ CallWord ∷ []

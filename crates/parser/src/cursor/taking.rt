@@ -4,7 +4,7 @@ ghost use mathlib.Core.Bool.{true};
 ghost use denote.Ref.{now};
 ghost use Rattle.tiny.specs.Scan.{scan};
 ghost use Rattle.parser.specs.Rest.{among, scanned, listed};
-ghost use Rattle.parser.specs.Ahead.{ahead, source-of, Taken, Expected, stands};
+ghost use Rattle.parser.specs.Ahead.{ahead, source-of, Taken, Expected, Ended, stands};
 use crate::cursor::Cursor;
 use crate::faults::ParseFault;
 use crate::faults::ParseFaultFromScan;
@@ -78,6 +78,18 @@ impl<'a> Cursor<'a> {
             None => self.end,
         };
         let what = SyntaxCause::Unexpected;
+        Err(ParseFault::Syntax(Placed { what, place }))
+    }
+
+    // No token is left.
+    pub fn finish(&self) -> Result<(), ParseFault>
+        ensures { λ r. ⌜ Ended (now (self .entry)) r ⌝ }
+    {
+        let Some(token) = self.next? else {
+            return Ok(());
+        };
+        let what = SyntaxCause::Unexpected;
+        let place = token.place;
         Err(ParseFault::Syntax(Placed { what, place }))
     }
 }
