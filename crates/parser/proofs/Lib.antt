@@ -2,3 +2,4 @@ pub mod Scanning
 pub mod Stand
 pub mod Ways
 pub mod Levels
+pub mod Whole

@@ -4,4 +4,5 @@ pub mod blocks;
 pub mod cursor;
 pub mod expressions;
 pub mod faults;
+pub mod parse;
 pub mod types;
