@@ -110,7 +110,7 @@ abbrev lifted : List Symbol → Stack → Option State
 lifted l z = Some (record { expected = l; stack = z })
 
 -- Rules with γ behind them are the rules, and then γ.
-begun-behind : (k : Kind) (γ : List Symbol) (rs : List Rule) (α : List Symbol) (z : Stack) (o : Option State) →
+pub begun-behind : (k : Kind) (γ : List Symbol) (rs : List Rule) (α : List Symbol) (z : Stack) (o : Option State) →
     begun (chosen k (behind γ rs)) α z o ≡ begun (chosen k rs) (γ ++ α) z o
 begun-behind k γ [] α z o = refl
 begun-behind k γ (r ∷ rs) α z o = go (is k (r .first)) (begun-behind k γ rs α z o)
@@ -161,7 +161,7 @@ told P k (r ∷ rs) β e a = go (is k (r .first)) refl e (λ e′. told P k rs �
     go false i e next = next e
 
 -- rules of which the first list has one for the kind, or has none
-chosen-left : (k : Kind) (rs ps : List Rule) (β : List Symbol) → chosen k rs ≡ Some β → chosen k (rs ++ ps) ≡ chosen k rs
+pub chosen-left : (k : Kind) (rs ps : List Rule) (β : List Symbol) → chosen k rs ≡ Some β → chosen k (rs ++ ps) ≡ chosen k rs
 chosen-left k [] ps β e = absurd (let z : _≡_ {A = ℕ} 0 1 = cc in omega arith)
 chosen-left k (r ∷ rs) ps β e = go (is k (r .first)) e (λ e′. chosen-left k rs ps β e′)
   where
@@ -170,7 +170,7 @@ chosen-left k (r ∷ rs) ps β e = go (is k (r .first)) e (λ e′. chosen-left 
     go true e next = refl
     go false e next = next e
 
-chosen-right : (k : Kind) (rs ps : List Rule) → chosen k rs ≡ None → chosen k (rs ++ ps) ≡ chosen k ps
+pub chosen-right : (k : Kind) (rs ps : List Rule) → chosen k rs ≡ None → chosen k (rs ++ ps) ≡ chosen k ps
 chosen-right k [] ps e = refl
 chosen-right k (r ∷ rs) ps e = go (is k (r .first)) e (λ e′. chosen-right k rs ps e′)
   where

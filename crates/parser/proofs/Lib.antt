@@ -1,0 +1,5 @@
+pub mod Scanning
+pub mod Stand
+pub mod Ways
+pub mod Levels
+pub mod Whole

@@ -1,0 +1,4 @@
+pub mod Rest
+pub mod Ahead
+pub mod Reading
+pub mod Parsing
