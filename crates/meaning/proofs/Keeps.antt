@@ -1,4 +1,4 @@
--- No instruction alters the length of memory.
+-- No instruction alters the length of memory, and the host only goes onward.
 use Prim.Native.Nat.{ℕ, zero, suc, _+_, _-_, _^_, _≤_, min}
 use mathlib.Core.Path.{_≡_, refl, ap, _∙_}
 use mathlib.Core.List.{List, [], _∷_, _++_}
@@ -19,13 +19,15 @@ use Rattle.machine.specs.declared.host.Event.{Event}
 use Rattle.machine.specs.declared.host.Event.the-variants.{Int as wrote-int, Bool as wrote-bool, Line as wrote-line}
 use Rattle.meaning.specs.Evaluation.{zeroed, moved, as-int, as-bool, in-range}
 use Rattle.machine.specs.Machine.{Machine, Effect, goes, stops, fails, on, jump, one, two, room, made, within, settled, heard, get, say, base, link, unary, binary, effect, Standing, going, finished, failed, Run, fetched, attempted, after, one-more, run}
-use Rattle.meaning.specs.Laws.{Memory-kept}
+use Rattle.meaning.specs.Laws.{Memory-kept, Onward, Host-onward}
 use Rattle.meaning.proofs.Cells.{patched-length}
+use Rattle.meaning.proofs.Onward.{onward-refl, onward-trans, onward-taken, onward-said}
 
-abbrev Keeps : ℕ → Effect → Type 0
-Keeps l (goes m) = length (m .cells) ≡ l
-Keeps l (stops m) = length (m .cells) ≡ l
-Keeps l (fails f) = Unit {0}
+-- K holds of the machine that an effect leaves
+abbrev Keeps : (Machine → Type 0) → Effect → Type 0
+Keeps K (goes m) = K m
+Keeps K (stops m) = K m
+Keeps K (fails f) = Unit {0}
 
 zeroed-length : (cs : List ℤ) (a n : ℕ) → a + n ≤ length cs → length (zeroed cs a n) ≡ length cs
 zeroed-length cs a n h = patched-length cs a (replicate n (pos 0)) n (length-replicate n (pos 0)) h
@@ -36,7 +38,7 @@ moved-length cs a b n h k = patched-length cs a (take n (drop b cs)) n (length-t
     least : min n (length cs - b) ≡ n
     least = omega arith
 
-module _ (l : ℕ) where
+module _ (l : Machine → Type 0) where
   either : (b : Bool) (x y : Effect) → (T b → Keeps l x) → Keeps l y → Keeps l (cond b x y)
   either true x y p q = p tt
   either false x y p q = q
@@ -66,39 +68,42 @@ module _ (l : ℕ) where
   settled-k (gives z) k p = p z
   settled-k (faults f) k p = tt
 
-  heard-k : (is : List Item) (f : Item → Answer) (h : Host) (k : ℤ → Host → Effect) → ((z : ℤ) (g : Host) → Keeps l (k z g)) → Keeps l (heard is f h k)
-  heard-k [] f h k p = tt
-  heard-k (i ∷ is) f h k p = settled-k (f i) _ (λ z. p z _)
+  heard-k : (is : List Item) (f : Item → Answer) (h : Host) (k : ℤ → Host → Effect) → h .items ≡ is → ((z : ℤ) (g : Host) → Onward h g → Keeps l (k z g)) → Keeps l (heard is f h k)
+  heard-k [] f h k e p = tt
+  heard-k (i ∷ is) f h k e p = settled-k (f i) _ (λ z. p z _ (onward-taken h i is e))
 
   link-k : (z : ℤ) (k : ℕ → Effect) → ((a : ℕ) → Keeps l (k a)) → Keeps l (link z k)
   link-k (pos a) k p = p a
   link-k (negsuc a) k p = tt
 
 module _ (m : Machine) where
-  abbrev len : ℕ
-  len = length (m .cells)
+  abbrev Kept : Machine → Type 0
+  Kept n = (length (n .cells) ≡ length (m .cells)) × Onward (m .host) (n .host)
 
-  unary-k : (o : Rule.Unary) → Keeps len (unary o m)
-  unary-k o = one-k len (m .operands) _ (λ x ops. settled-k len (unary-of o x) _ (λ z. refl))
+  still : Onward (m .host) (m .host)
+  still = onward-refl (m .host)
 
-  binary-k : (o : Rule.Binary) → Keeps len (binary o m)
-  binary-k o = two-k len (m .operands) _ (λ x y ops. settled-k len (binary-of o x y) _ (λ z. refl))
+  unary-k : (o : Rule.Unary) → Keeps Kept (unary o m)
+  unary-k o = one-k Kept (m .operands) _ (λ x ops. settled-k Kept (unary-of o x) _ (λ z. (refl, still)))
 
-  get-k : (f : Item → Answer) → Keeps len (get f m)
-  get-k f = one-k len (m .operands) _ (λ a ops. heard-k len (m .host .items) f (m .host) _ (λ z h. within-k len a 1 (m .cells) _ (λ b q. length-set (m .cells) b z)))
+  binary-k : (o : Rule.Binary) → Keeps Kept (binary o m)
+  binary-k o = two-k Kept (m .operands) _ (λ x y ops. settled-k Kept (binary-of o x y) _ (λ z. (refl, still)))
 
-  say-k : (e : Event) (ops : List ℤ) → Keeps len (say e m ops)
-  say-k e ops = either len (leb (length (m .host .marks ++ m .host .renders e)) (m .host .room)) _ (fails 26) (λ _. refl) tt
+  get-k : (f : Item → Answer) → Keeps Kept (get f m)
+  get-k f = one-k Kept (m .operands) _ (λ a ops. heard-k Kept (m .host .items) f (m .host) _ refl (λ z h o. within-k Kept a 1 (m .cells) _ (λ b q. (length-set (m .cells) b z, o))))
 
-  effect-k : (i : Instruction) → Keeps len (effect i m)
-  effect-k (Lit v) = room-k len (m .operands) _ refl
-  effect-k (Var l k) = room-k len (m .operands) _ (made-k len (pos (base m l + k)) (λ a. goes (on m (pos a ∷ m .operands))) (λ a. refl))
-  effect-k (Off n) = one-k len (m .operands) _ (λ a ops. made-k len (a +ℤ pos n) _ (λ b. refl))
-  effect-k Ld = one-k len (m .operands) _ (λ a ops. within-k len a 1 (m .cells) _ (λ b q. refl))
-  effect-k St = two-k len (m .operands) _ (λ a z ops. within-k len a 1 (m .cells) _ (λ b q. length-set (m .cells) b z))
-  effect-k Stk = two-k len (m .operands) _ (λ a z ops. within-k len a 1 (m .cells) _ (λ b q. length-set (m .cells) b z))
-  effect-k (Copy n) = two-k len (m .operands) _ (λ a b ops. within-k len b n (m .cells) _ (λ from p. within-k len a n (m .cells) _ (λ to q. moved-length (m .cells) to from n q p)))
-  effect-k (Index n s) = two-k len (m .operands) _ (λ a i ops. either len (in-range i n) _ (fails 21) (λ _. made-k len (a +ℤ i *ℤ pos s) _ (λ b. refl)) tt)
+  say-k : (e : Event) (ops : List ℤ) → Keeps Kept (say e m ops)
+  say-k e ops = either Kept (leb (length (m .host .marks ++ m .host .renders e)) (m .host .room)) _ (fails 26) (λ _. (refl, onward-said (m .host) e)) tt
+
+  effect-k : (i : Instruction) → Keeps Kept (effect i m)
+  effect-k (Lit v) = room-k Kept (m .operands) _ (refl, still)
+  effect-k (Var l k) = room-k Kept (m .operands) _ (made-k Kept (pos (base m l + k)) (λ a. goes (on m (pos a ∷ m .operands))) (λ a. (refl, still)))
+  effect-k (Off n) = one-k Kept (m .operands) _ (λ a ops. made-k Kept (a +ℤ pos n) _ (λ b. (refl, still)))
+  effect-k Ld = one-k Kept (m .operands) _ (λ a ops. within-k Kept a 1 (m .cells) _ (λ b q. (refl, still)))
+  effect-k St = two-k Kept (m .operands) _ (λ a z ops. within-k Kept a 1 (m .cells) _ (λ b q. (length-set (m .cells) b z, still)))
+  effect-k Stk = two-k Kept (m .operands) _ (λ a z ops. within-k Kept a 1 (m .cells) _ (λ b q. (length-set (m .cells) b z, still)))
+  effect-k (Copy n) = two-k Kept (m .operands) _ (λ a b ops. within-k Kept b n (m .cells) _ (λ from p. within-k Kept a n (m .cells) _ (λ to q. (moved-length (m .cells) to from n q p, still))))
+  effect-k (Index n s) = two-k Kept (m .operands) _ (λ a i ops. either Kept (in-range i n) _ (fails 21) (λ _. made-k Kept (a +ℤ i *ℤ pos s) _ (λ b. (refl, still))) tt)
   effect-k Add = binary-k Rule.add
   effect-k Sub = binary-k Rule.sub
   effect-k Mul = binary-k Rule.mul
@@ -114,44 +119,48 @@ module _ (m : Machine) where
   effect-k Ge = binary-k Rule.ge
   effect-k Eq = binary-k Rule.eq
   effect-k Ne = binary-k Rule.ne
-  effect-k (Jmp t) = refl
-  effect-k (Jf t) = one-k len (m .operands) _ (λ x ops. jumped (is-zero x) ops)
+  effect-k (Jmp t) = (refl, still)
+  effect-k (Jf t) = one-k Kept (m .operands) _ (λ x ops. jumped (is-zero x) ops)
     where
-      jumped : (b : Bool) (ops : List ℤ) → length ((cond b (jump m ops t) (on m ops)) .cells) ≡ len
-      jumped true ops = refl
-      jumped false ops = refl
+      jumped : (b : Bool) (ops : List ℤ) → Kept (cond b (jump m ops t) (on m ops))
+      jumped true ops = (refl, still)
+      jumped false ops = (refl, still)
   effect-k Geti = get-k as-int
   effect-k Getb = get-k as-bool
-  effect-k Puti = one-k len (m .operands) _ (λ x ops. say-k (wrote-int x) ops)
-  effect-k Putb = one-k len (m .operands) _ (λ x ops. say-k (wrote-bool (not (is-zero x))) ops)
+  effect-k Puti = one-k Kept (m .operands) _ (λ x ops. say-k (wrote-int x) ops)
+  effect-k Putb = one-k Kept (m .operands) _ (λ x ops. say-k (wrote-bool (not (is-zero x))) ops)
   effect-k Nl = say-k wrote-line (m .operands)
-  effect-k (Zero l k n) = within-k len (pos (base m l + k)) n (m .cells) _ (λ a q. zeroed-length (m .cells) a n q)
-  effect-k (Frame n) = room-k len (m .operands) _ (either len (leb (m .top + n) (length (m .cells))) _ (fails 27) (λ t. zeroed-length (m .cells) (m .top) n (leb→le (m .top + n) (length (m .cells)) t)) tt)
-  effect-k (Enter l t) = one-k len (m .operands) _ (λ a ops. within-k len a 2 (m .cells) _ (λ b q. length-set (set (m .cells) b (pos (suc (m .next)))) (suc b) (pos (base m l)) ∙ length-set (m .cells) b (pos (suc (m .next)))))
+  effect-k (Zero l k n) = within-k Kept (pos (base m l + k)) n (m .cells) _ (λ a q. (zeroed-length (m .cells) a n q, still))
+  effect-k (Frame n) = room-k Kept (m .operands) _ (either Kept (leb (m .top + n) (length (m .cells))) _ (fails 27) (λ t. (zeroed-length (m .cells) (m .top) n (leb→le (m .top + n) (length (m .cells)) t), still)) tt)
+  effect-k (Enter l t) = one-k Kept (m .operands) _ (λ a ops. within-k Kept a 2 (m .cells) _ (λ b q. (length-set (set (m .cells) b (pos (suc (m .next)))) (suc b) (pos (base m l)) ∙ length-set (m .cells) b (pos (suc (m .next))), still)))
   effect-k (Leave l) =
-      within-k len (pos (base m l)) 2 (m .cells) (λ b. link (getD (m .cells) b (pos 0)) (λ t. link (getD (m .cells) (suc b) (pos 0)) (λ old. back t old)))
-      (λ b q. link-k len (getD (m .cells) b (pos 0)) (λ t. link (getD (m .cells) (suc b) (pos 0)) (λ old. back t old)) (λ t. link-k len (getD (m .cells) (suc b) (pos 0)) (λ old. back t old) (λ old. refl)))
+      within-k Kept (pos (base m l)) 2 (m .cells) (λ b. link (getD (m .cells) b (pos 0)) (λ t. link (getD (m .cells) (suc b) (pos 0)) (λ old. back t old)))
+      (λ b q. link-k Kept (getD (m .cells) b (pos 0)) (λ t. link (getD (m .cells) (suc b) (pos 0)) (λ old. back t old)) (λ t. link-k Kept (getD (m .cells) (suc b) (pos 0)) (λ old. back t old) (λ old. (refl, still))))
     where
       back : ℕ → ℕ → Effect
       back t old = goes (record { operands = m .operands; bases = set (m .bases) l old; next = t; top = base m l; cells = m .cells; host = m .host })
-  effect-k Dup = one-k len (m .operands) _ (λ x ops. room-k len (m .operands) _ refl)
-  effect-k Pop = one-k len (m .operands) _ (λ x ops. refl)
-  effect-k Stop = refl
+  effect-k Dup = one-k Kept (m .operands) _ (λ x ops. room-k Kept (m .operands) _ (refl, still))
+  effect-k Pop = one-k Kept (m .operands) _ (λ x ops. (refl, still))
+  effect-k Stop = (refl, still)
 
-  attempted-k : (o : Option Instruction) → Keeps len (attempted o m)
+  attempted-k : (o : Option Instruction) → Keeps Kept (attempted o m)
   attempted-k None = tt
   attempted-k (Some i) = effect-k i
 
-  after-k : (e : Effect) (c : ℕ) → Keeps len e → length (after e c m .machine .cells) ≡ len
+  after-k : (e : Effect) (c : ℕ) → Keeps Kept e → Kept (after e c m .machine)
   after-k (goes m′) c p = p
   after-k (stops m′) c p = p
-  after-k (fails f) c p = refl
+  after-k (fails f) c p = (refl, still)
 
-more-k : (c : List Instruction) (s : Standing) (r : Run) → length (one-more c s r .machine .cells) ≡ length (r .machine .cells)
+more-k : (c : List Instruction) (s : Standing) (r : Run) → Kept (r .machine) (one-more c s r .machine)
 more-k c going r = after-k (r .machine) (attempted (fetched c (r .machine .next)) (r .machine)) (r .count) (attempted-k (r .machine) (fetched c (r .machine .next)))
-more-k c finished r = refl
-more-k c (failed f) r = refl
+more-k c finished r = (refl, still (r .machine))
+more-k c (failed f) r = (refl, still (r .machine))
 
 pub memory-kept : Memory-kept
 memory-kept c zero r = refl
-memory-kept c (suc n) r = more-k c (run c n r .standing) (run c n r) ∙ memory-kept c n r
+memory-kept c (suc n) r = more-k c (run c n r .standing) (run c n r) .0 ∙ memory-kept c n r
+
+pub host-onward : Host-onward
+host-onward c zero r = onward-refl (r .machine .host)
+host-onward c (suc n) r = onward-trans (r .machine .host) (run c n r .machine .host) (run c (suc n) r .machine .host) (host-onward c n r) (more-k c (run c n r .standing) (run c n r) .1)

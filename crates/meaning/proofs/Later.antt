@@ -18,6 +18,7 @@ use Rattle.meaning.specs.Sizes.{own-size, frame-size}
 use Rattle.meaning.specs.Objects.{State, Outcome, done, fault, _>>=_, _>>_, return, Object, Reference, beyond, Binding, names, procedure, Env, reference-of, with-objects, with-host, new, part, load, save, move, scoped, settle, indexed, taken, hear, said}
 use Rattle.meaning.specs.Meaning.{declare, charge, place, value, enter, leave, given, arguments, entry, called, found, act, act-all, block, ranked, program}
 use Rattle.meaning.proofs.Fair.{Fair, unary-fair, binary-fair, int-fair, bool-fair}
+use Rattle.meaning.proofs.Onward.{onward-taken, onward-said}
 use Rattle.meaning.proofs.Limits.{Side, early, late, Pair, Quiet, quiet, further-refl, bind, charged, charge-last, lower}
 
 module _ (lim : Side → ℕ) (order : lim early ≤ lim late) (room low : ℕ) where
@@ -91,7 +92,7 @@ module _ (lim : Side → ℕ) (order : lim early ≤ lim late) (room low : ℕ) 
   hear-ok f fair = step (λ s. hear (s .host .items) f s) (λ s. go s (s .host .items) refl)
     where
       item : (s : State) (i : Item) (is : List Item) → s .host .items ≡ i ∷ is → (a : Answer) → Fair a → Quiet lim order s (taken is a s) (taken is a s)
-      item s i is e (gives z) h = (refl, record { count = omega arith; output = further-refl s s refl refl .output; input = (i ∷ [], e); room = refl; renders = refl }, refl)
+      item s i is e (gives z) h = (refl, record { count = omega arith; host = onward-taken (s .host) i is e }, refl)
       item s i is e (faults k) h = (refl, h .0, h .1, refl)
 
       go : (s : State) (is : List Item) → s .host .items ≡ is → Quiet lim order s (hear is f s) (hear is f s)
@@ -108,7 +109,7 @@ module _ (lim : Side → ℕ) (order : lim early ≤ lim late) (room low : ℕ) 
       to s b = elim b as (λ x. Outcome Unit) [ true ↦ done tt (next s) | false ↦ fault 26 s ]
 
       go : (s : State) (b : Bool) → Quiet lim order s (to s b) (to s b)
-      go s true = (refl, record { count = omega arith; output = (s .host .renders e, refl); input = ([], refl); room = refl; renders = refl }, refl)
+      go s true = (refl, record { count = omega arith; host = onward-said (s .host) e }, refl)
       go s false = (refl, omega arith, omega arith, refl)
 
   -- designators and values

@@ -1,52 +1,31 @@
 -- A computation of the meaning under two limits, the early one not above the late one.
 use Prim.Native.Nat.{ℕ, suc, _≤_}
 use mathlib.Core.Path.{_≡_, refl, sym, ap, _∙_, subst, fun-ext}
-use mathlib.Core.List.{List, [], _++_, append-assoc}
 use mathlib.Core.Bool.{Bool, true, false}
 use native.Mathlib.Omega.{arith}
 use lib.Dec.{T, eqb, eqb→eq, eqb-refl}
-use Rattle.std.proofs.shelf.Lists.{append-nil}
 use Rattle.machine.specs.Host.{Host}
 use Rattle.meaning.specs.Objects.{State, Outcome, done, cut, fault, _>>=_, _>>_, return}
 use Rattle.meaning.specs.Meaning.{charge}
-use Rattle.meaning.specs.MeaningLaws.{state, Begins, Ends, Further}
+use Rattle.meaning.specs.Laws.{Onward}
+use Rattle.meaning.specs.MeaningLaws.{state, Further}
+use Rattle.meaning.proofs.Onward.{onward-refl, onward-trans}
 
 pub data Side : Type 0 where
   early late : Side
 
-begins-refl : {A : Type 0} (xs : List A) → Begins xs xs
-begins-refl xs = ([], sym (append-nil xs))
-
-begins-trans : {A : Type 0} (xs ys zs : List A) → Begins xs ys → Begins ys zs → Begins xs zs
-begins-trans {A} xs ys zs (p, e) (q, f) = (p ++ q, f ∙ ap (λ (x : List A). x ++ q) e ∙ append-assoc xs p q)
-
-ends-trans : {A : Type 0} (xs ys zs : List A) → Ends xs ys → Ends ys zs → Ends xs zs
-ends-trans {A} xs ys zs (p, e) (q, f) = (q ++ p, f ∙ ap (λ (x : List A). q ++ x) e ∙ sym (append-assoc q p xs))
-
 -- to a state with the same host and count
 pub further-refl : (s t : State) → t .count ≡ s .count → t .host ≡ s .host → Further s t
-further-refl s t c e = record {
-  count = omega arith;
-  output = subst (λ (h : Host). Begins (s .host .marks) (h .marks)) (sym e) (begins-refl (s .host .marks));
-  input = ([], ap (λ (h : Host). h .items) (sym e));
-  room = ap (λ (h : Host). h .room) e;
-  renders = ap (λ (h : Host). h .renders) e;
-}
+further-refl s t c e = record { count = omega arith; host = subst (λ (h : Host). Onward (s .host) h) (sym e) (onward-refl (s .host)) }
 
 pub further-trans : (s t u : State) → Further s t → Further t u → Further s u
-further-trans s t u f g = record {
-  count = omega (arith, f .count, g .count);
-  output = begins-trans (s .host .marks) (t .host .marks) (u .host .marks) (f .output) (g .output);
-  input = ends-trans (u .host .items) (t .host .items) (s .host .items) (g .input) (f .input);
-  room = g .room ∙ f .room;
-  renders = g .renders ∙ f .renders;
-}
+further-trans s t u f g = record { count = omega (arith, f .count, g .count); host = onward-trans (s .host) (t .host) (u .host) (f .host) (g .host) }
 
 abbrev tick : State → State
 tick s = record { objects = s .objects; used = s .used; host = s .host; count = suc (s .count) }
 
 further-tick : (s : State) → Further s (tick s)
-further-tick s = record { count = omega arith; output = begins-refl (s .host .marks); input = ([], refl); room = refl; renders = refl }
+further-tick s = record { count = omega arith; host = onward-refl (s .host) }
 
 eqb-no : (a b : ℕ) → eqb a b ≡ false → ¬ (a ≡ b)
 eqb-no a b q c = subst T q (subst (λ (x : ℕ). T (eqb x b)) (sym c) (eqb-refl b))

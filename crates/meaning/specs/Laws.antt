@@ -1,10 +1,11 @@
 -- Laws of runs, whatever the code.
 use Prim.Native.Nat.{ℕ, suc, _+_, _≤_, _<_}
 use mathlib.Core.Path.{_≡_}
-use mathlib.Core.List.{List}
+use mathlib.Core.List.{List, _++_}
 use mathlib.Core.Logic.{_⊎_}
 use Rattle.machine.specs.declared.instruction.Instruction.{Instruction}
 use lib.ListN.{length}
+use Rattle.machine.specs.Host.{Host}
 use Rattle.machine.specs.Machine.{Run, going, run}
 
 -- a run of a + b instructions is a run of a, and from there one of b
@@ -32,9 +33,27 @@ Budget-spent = (c : List Instruction) (k : ℕ) (r : Run) → r .standing ≡ go
 abbrev pub Memory-kept : Type 0
 Memory-kept = (c : List Instruction) (n : ℕ) (r : Run) → length (run c n r .machine .cells) ≡ length (r .machine .cells)
 
+abbrev pub Begins : {A : Type 0} → List A → List A → Type 0
+Begins {A} xs ys = (more : List A) × (ys ≡ xs ++ more)
+
+abbrev pub Ends : {A : Type 0} → List A → List A → Type 0
+Ends {A} xs ys = (gone : List A) × (ys ≡ gone ++ xs)
+
+-- from h to g output grows only at its end, waiting input shrinks only at its front, and neither the room for output nor
+-- an event's rendering changes
+pub record Onward (h g : Host) : Type 0 where
+  pub output : Begins (h .marks) (g .marks)
+  pub input : Ends (g .items) (h .items)
+  pub room : g .room ≡ h .room
+  pub renders : g .renders ≡ h .renders
+
+abbrev pub Host-onward : Type 0
+Host-onward = (c : List Instruction) (n : ℕ) (r : Run) → Onward (r .machine .host) (run c n r .machine .host)
+
 pub record RunLaws : Type 0 where
   pub runs-add : Runs-add
   pub ended-stays : Ended-stays
   pub going-counts : Going-counts
   pub budget-spent : Budget-spent
   pub memory-kept : Memory-kept
+  pub host-onward : Host-onward

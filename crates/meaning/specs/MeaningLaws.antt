@@ -1,11 +1,11 @@
 -- Laws of the meaning, whatever the rule: sound or not.
-use Prim.Native.Nat.{ℕ, _≤_, _+_, min}
+use Prim.Native.Nat.{ℕ, _≤_, min}
 use mathlib.Core.Path.{_≡_}
-use mathlib.Core.List.{List, _++_}
 use Rattle.machine.specs.Host.{Host}
 use Rattle.meaning.specs.Rule.{Block}
 use Rattle.meaning.specs.Objects.{State, Outcome, done, cut, fault}
 use Rattle.meaning.specs.Meaning.{ranked-meaning, meaning}
+use Rattle.meaning.specs.Laws.{Onward}
 
 -- the state in which an evaluation is done, cut off or at a fault
 abbrev pub state : {A : Type 0} → Outcome A → State
@@ -13,20 +13,10 @@ state (done a s) = s
 state (cut s) = s
 state (fault f s) = s
 
-abbrev pub Begins : {A : Type 0} → List A → List A → Type 0
-Begins {A} xs ys = (more : List A) × (ys ≡ xs ++ more)
-
-abbrev pub Ends : {A : Type 0} → List A → List A → Type 0
-Ends {A} xs ys = (gone : List A) × (ys ≡ gone ++ xs)
-
--- From s to t no charge is taken back, output grows only at its end, waiting input shrinks only at its front,
--- and neither the room for output nor an event's rendering changes.
+-- from s to t no charge is taken back, and the host only goes onward
 pub record Further (s t : State) : Type 0 where
   pub count : s .count ≤ t .count
-  pub output : Begins (s .host .marks) (t .host .marks)
-  pub input : Ends (t .host .items) (s .host .items)
-  pub room : t .host .room ≡ s .host .room
-  pub renders : t .host .renders ≡ s .host .renders
+  pub host : Onward (s .host) (t .host)
 
 -- What the meaning cut off at n says of the one that is cut off later: done or at a fault, that one is the same;
 -- cut, it has made exactly n charges, and that one only goes further.

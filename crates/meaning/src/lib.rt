@@ -79,8 +79,9 @@ pub fn accepted_is_lawful() -> u8
     0
 }
 
-// The laws of runs: a run of a + b instructions is one of a and then one of b, an ended run stays as it is, a going one
-// counts each instruction and spends its budget whole unless it ends within it, and memory keeps its length.
+// The laws of runs, whatever the code: a run of a + b instructions is one of a and then one of b, an ended run stays as it
+// is, a going one counts each instruction and spends its budget whole unless it ends within it, memory keeps its length,
+// output grows only at its end, and waiting input shrinks only at its front.
 pub fn run_laws_stand() -> u8
     ensures { λ _. ⌜ RunLaws ⌝ }
 {
