@@ -2,6 +2,7 @@
 mod command;
 mod show;
 mod tokens;
+mod tree;
 
 use command::Command;
 use std::env;
@@ -38,6 +39,10 @@ fn main(rt: LibcRuntime) -> Result<(), Ended> {
         Command::Tokens(path) => {
             let source = show::source(&rt, path.as_str())?;
             tokens::list(&rt, source.as_slice())
+        }
+        Command::Tree(path) => {
+            let source = show::source(&rt, path.as_str())?;
+            tree::draw(&rt, source.as_slice())
         }
         Command::Unknown(word) => {
             eprintln!(
