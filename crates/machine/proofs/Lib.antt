@@ -1,4 +1,5 @@
 -- Proofs of the machine.
 pub mod Held
 pub mod Levels
+pub mod Moves
 pub mod Elements

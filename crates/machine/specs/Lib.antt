@@ -9,5 +9,6 @@ pub mod Host
 pub mod Cells
 pub mod Machine
 pub mod Stacks
+pub mod Memory
 pub mod Calculations
 pub mod Running

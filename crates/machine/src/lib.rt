@@ -5,6 +5,7 @@ pub mod fault;
 pub mod flow;
 pub mod host;
 pub mod instruction;
+pub mod memory;
 pub mod operands;
 pub mod registers;
 pub mod shelf;
