@@ -1,6 +1,7 @@
 -- The machine that registers, cells and a host make up, and what a call makes of it.
 use mathlib.Core.Path.{_≡_}
-use mathlib.Core.List.{List}
+use mathlib.Core.Bool.{cond}
+use mathlib.Core.List.{List, [], _∷_}
 use Prim.Native.Nat.{ℕ, suc}
 use lib.IntN.{ℤ}
 use Rattle.std.specs.declared.result.Result.{Result}
@@ -10,8 +11,11 @@ use Rattle.machine.specs.declared.operands.Operands.{Operands}
 use Rattle.machine.specs.declared.registers.Registers.{Registers}
 use Rattle.machine.specs.declared.flow.Flow.{Flow}
 use Rattle.machine.specs.declared.flow.Flow.the-variants.{Next, To, Stop}
-use Rattle.machine.specs.Faults.{fault-number}
-use Rattle.machine.specs.Host.{Host}
+use Rattle.machine.specs.declared.host.Item.{Item}
+use Rattle.machine.specs.declared.host.Event.{Event}
+use Rattle.machine.specs.Ints.{Answer, faults}
+use Rattle.machine.specs.Faults.{fault-number, Failed}
+use Rattle.machine.specs.Host.{Host, fits, said}
 use Rattle.machine.specs.Stacks.{held}
 use Rattle.machine.specs.Machine.{Machine, Effect, goes, stops, fails}
 
@@ -45,3 +49,12 @@ Went (stops m) (Ok f) before after = Ends m f before after
 Went (stops m) (Err e) before after = ⊥
 Went (fails n) (Ok f) before after = ⊥
 Went (fails n) (Err e) before after = (fault-number e ≡ n) × (after .cells ≡ before .cells) × (after .host ≡ before .host)
+
+-- what the first waiting item is as, or that none waits
+abbrev pub waiting : (Item → Answer) → List Item → Answer
+waiting f [] = faults 24
+waiting f (i ∷ is) = f i
+
+-- a say of an event, as an instruction answers it
+abbrev pub Told : Event → Result Flow Fault → Host → Host → Type 0
+Told e r before after = (after ≡ said e before) × cond (fits e before) (r ≡ Ok Next) (Failed 26 r)
