@@ -3,3 +3,4 @@ pub mod Held
 pub mod Levels
 pub mod Moves
 pub mod Elements
+pub mod Calculated

@@ -5,18 +5,18 @@ use crate::arithmetic::is_true;
 use crate::arithmetic::negate;
 use crate::arithmetic::truth;
 use crate::fault::Fault;
+use crate::instruction::Instruction;
 use crate::operands::Operands;
 ghost use mathlib.Core.Path.{_≡_};
 ghost use mathlib.Core.Bool.{not};
 ghost use Prim.Native.Nat.{ℕ, _+_};
 ghost use lib.IntN.{pos, _+ℤ_, _*ℤ_, negℤ};
 ghost use Rattle.tiny.specs.Operators as Rule;
-ghost use Rattle.machine.specs.Ints.{unary-of, binary-of};
 ghost use Rattle.machine.specs.Operators.{rule};
 ghost use Rattle.machine.specs.Faults.{Answered};
 ghost use Rattle.machine.specs.Stacks.{Became};
 ghost use Rattle.machine.specs.Running.{operands-of};
-ghost use Rattle.machine.specs.Calculations.{with-one, with-two, answered, pushed, address, content, variable, beyond, loaded, element, indexed, doubled, dropped};
+ghost use Rattle.machine.specs.Calculations.{pushed, address, content, variable, beyond, loaded, element, indexed, combined, turned, doubled, dropped, calculated};
 
 // A number as an address.
 pub fn address(value: i64) -> Result<i32, Fault>
@@ -96,7 +96,7 @@ pub fn index(operands: &mut Operands, count: u32, size: u32) -> Result<(), Fault
 
 // Two operands become one.
 pub fn binary(operands: &mut Operands, operator: Operator) -> Result<(), Fault>
-    ensures { λ r. ⌜ Became (with-two (operands-of (now (operands .entry))) (λ x y rest. answered (binary-of (rule operator) x y) rest)) r (operands-of (now (operands .exit))) ⌝ }
+    ensures { λ r. ⌜ Became (combined (rule operator) (operands-of (now (operands .entry)))) r (operands-of (now (operands .exit))) ⌝ }
 {
     let y = operands.pop()?;
     let x = operands.pop()?;
@@ -106,7 +106,7 @@ pub fn binary(operands: &mut Operands, operator: Operator) -> Result<(), Fault>
 
 // The sign is turned.
 pub fn negative(operands: &mut Operands) -> Result<(), Fault>
-    ensures { λ r. ⌜ Became (with-one (operands-of (now (operands .entry))) (λ x rest. answered (unary-of Rule.neg x) rest)) r (operands-of (now (operands .exit))) ⌝ }
+    ensures { λ r. ⌜ Became (turned Rule.neg (operands-of (now (operands .entry)))) r (operands-of (now (operands .exit))) ⌝ }
 {
     let x = operands.pop()?;
     let value = negate(x)?;
@@ -115,7 +115,7 @@ pub fn negative(operands: &mut Operands) -> Result<(), Fault>
 
 // A truth value is turned.
 pub fn opposite(operands: &mut Operands) -> Result<(), Fault>
-    ensures { λ r. ⌜ Became (with-one (operands-of (now (operands .entry))) (λ x rest. answered (unary-of Rule.not x) rest)) r (operands-of (now (operands .exit))) ⌝ }
+    ensures { λ r. ⌜ Became (turned Rule.not (operands-of (now (operands .entry)))) r (operands-of (now (operands .exit))) ⌝ }
 {
     let x = operands.pop()?;
     operands.push(truth(!is_true(x)))
@@ -136,4 +136,38 @@ pub fn discard(operands: &mut Operands) -> Result<(), Fault>
 {
     operands.pop()?;
     Ok(())
+}
+
+// Carries out an instruction that changes the operands and nothing else.
+pub fn calculate(
+    operands: &mut Operands,
+    cells: &[i32],
+    instruction: Instruction,
+) -> Result<(), Fault>
+    ensures { λ r. ⌜ Became (calculated instruction (now (cells .entry)) (operands-of (now (operands .entry)))) r (operands-of (now (operands .exit))) ⌝ }
+{
+    match instruction {
+        Instruction::Lit(value) => push(operands, value),
+        Instruction::Off(count) => offset(operands, count),
+        Instruction::Ld => load(operands, cells),
+        Instruction::Index(count, size) => index(operands, count, size),
+        Instruction::Add => binary(operands, Operator::Add),
+        Instruction::Sub => binary(operands, Operator::Sub),
+        Instruction::Mul => binary(operands, Operator::Mul),
+        Instruction::Div => binary(operands, Operator::Div),
+        Instruction::Mod => binary(operands, Operator::Mod),
+        Instruction::Neg => negative(operands),
+        Instruction::Not => opposite(operands),
+        Instruction::And => binary(operands, Operator::And),
+        Instruction::Or => binary(operands, Operator::Or),
+        Instruction::Lt => binary(operands, Operator::Lt),
+        Instruction::Le => binary(operands, Operator::Le),
+        Instruction::Gt => binary(operands, Operator::Gt),
+        Instruction::Ge => binary(operands, Operator::Ge),
+        Instruction::Eq => binary(operands, Operator::Eq),
+        Instruction::Ne => binary(operands, Operator::Ne),
+        Instruction::Dup => double(operands),
+        Instruction::Pop => discard(operands),
+        _ => Ok(()),
+    }
 }

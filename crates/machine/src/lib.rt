@@ -1,6 +1,7 @@
 // The machine that runs the code of rules.
 pub mod arithmetic;
 pub mod calculating;
+pub mod execute;
 pub mod fault;
 pub mod flow;
 pub mod frames;
