@@ -4,3 +4,4 @@ pub mod Levels
 pub mod Moves
 pub mod Elements
 pub mod Calculated
+pub mod Runs

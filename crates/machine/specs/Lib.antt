@@ -12,3 +12,4 @@ pub mod Stacks
 pub mod Memory
 pub mod Calculations
 pub mod Running
+pub mod Standings

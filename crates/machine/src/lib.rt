@@ -1,4 +1,5 @@
 // The machine that runs the code of rules.
+pub mod advance;
 pub mod arithmetic;
 pub mod calculating;
 pub mod execute;
