@@ -1,9 +1,11 @@
 // What a run works with besides memory and host.
+pub mod fresh;
+
 use crate::operands::Operands;
 ghost use mathlib.Core.Path.{_≡_};
 ghost use mathlib.Core.Bool.{true};
 ghost use Prim.Native.Nat.{_<_};
-ghost use lib.ListN.{getD, set, replicate};
+ghost use lib.ListN.{getD, set};
 ghost use Rattle.machine.specs.Bases.{low};
 
 pub const LEVELS: usize = 9;
