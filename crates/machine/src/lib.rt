@@ -1,16 +1,6 @@
-// The machine that runs the code of rules.
-pub mod advance;
-pub mod arithmetic;
-pub mod calculating;
-pub mod execute;
+// The machine that runs the code of rules: its instructions and faults, the shelf that keeps code,
+// and the host that reads and writes.
 pub mod fault;
-pub mod flow;
-pub mod frames;
 pub mod host;
 pub mod instruction;
-pub mod memory;
-pub mod operands;
-pub mod registers;
 pub mod shelf;
-pub mod storing;
-pub mod talking;

@@ -1,7 +1,0 @@
--- Proofs of the machine.
-pub mod Held
-pub mod Levels
-pub mod Moves
-pub mod Elements
-pub mod Calculated
-pub mod Runs
