@@ -1,2 +1,5 @@
 -- Proofs of the hosts.
 pub mod Items
+pub mod Literals
+pub mod Renders
+pub mod Words

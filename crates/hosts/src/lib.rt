@@ -1,2 +1,5 @@
-// Hosts over lent slices.
+// Hosts over lent slices: numbers, and text.
 pub mod numbers;
+mod parts;
+mod rendering;
+pub mod text_host;

@@ -31,6 +31,13 @@ impl<'a> NumberHost<'a> {
             used: 0,
         }
     }
+
+    // What was written.
+    pub fn output(&self) -> &[i32]
+        ensures { λ r. ⌜ now r ≡ take (now (self .entry) .used) (now (now (self .entry) .output)) ⌝ }
+    {
+        &self.output[0..self.used]
+    }
 }
 
 // The two numbers that stand for an event.

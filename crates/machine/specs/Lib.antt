@@ -2,12 +2,7 @@
 pub mod Instructions
 pub mod Shelves
 pub mod Ints
-pub mod Operators
 pub mod Faults
-pub mod Bases
 pub mod Host
 pub mod Cells
 pub mod Machine
-pub mod Stacks
-pub mod Calculations
-pub mod Running

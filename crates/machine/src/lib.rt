@@ -1,10 +1,6 @@
-// The machine that runs the code of rules.
-pub mod arithmetic;
-pub mod calculating;
+// The machine that runs the code of rules: its instructions and faults, the shelf that keeps code,
+// and the host that reads and writes.
 pub mod fault;
-pub mod flow;
 pub mod host;
 pub mod instruction;
-pub mod operands;
-pub mod registers;
 pub mod shelf;

@@ -1,2 +1,7 @@
-// Shelves for code over lent slices.
+// Shelves for code over lent slices: records, and bytes.
+pub mod byte_shelf;
+mod groups;
+mod parts;
+mod reading;
 pub mod record;
+mod writing;

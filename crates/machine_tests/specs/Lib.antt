@@ -1,0 +1,2 @@
+-- Definitions of the samples.
+pub mod Sample

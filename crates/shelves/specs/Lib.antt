@@ -1,0 +1,4 @@
+-- Definitions of the shelves: the byte form of code.
+pub mod Groups
+pub mod Parts
+pub mod Bytes
