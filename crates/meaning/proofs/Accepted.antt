@@ -40,4 +40,8 @@ never t e =
     not-made b e = let z : _≡_ {A = ℕ} 0 1 = cc in omega arith
 
 pub unbroken-accepted : Unbroken-is-accepted
-unbroken-accepted = (unbroken, never)
+unbroken-accepted = record {
+  accepts = λ t u. unbroken t (u .depth) (u .names) (u .kinds) (u .sizes);
+  only = λ t b e. let p = passed t b e in record { depth = p .deep; names = p .names; kinds = p .kinds; sizes = p .large };
+  shows = never;
+}

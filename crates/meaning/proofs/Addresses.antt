@@ -23,10 +23,10 @@ use Rattle.meaning.proofs.Cells.{mem-outer, patched-length}
 use Rattle.meaning.proofs.Tracks.{Setting, St, tick, mach, Ends, ends-bind, charged, stays-to}
 use Rattle.meaning.proofs.Scopes.{Sits, sits-left, sits-right, sits-at, fetched-at}
 use Rattle.meaning.proofs.Lengths.{block-long}
-use Rattle.meaning.proofs.Exprs.{plain}
+use Rattle.meaning.proofs.ExpressionRuns.{plain}
 use Rattle.meaning.proofs.Rows.{last}
-use Rattle.meaning.proofs.Calls.{Ready, Act}
-use Rattle.meaning.proofs.Acts.{ranked-ok}
+use Rattle.meaning.proofs.CallRuns.{Ready, Act}
+use Rattle.meaning.proofs.ActionRuns.{ranked-ok}
 
 sits-all : (C pre c : List Instruction) → C ≡ pre ++ c → Sits C c (length pre)
 sits-all C pre [] e = tt

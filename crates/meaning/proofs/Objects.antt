@@ -22,8 +22,8 @@ use Rattle.meaning.proofs.Cells.{patched-length}
 use Rattle.meaning.proofs.Stretches.{Layout, apart-none, store-none, Store, grown-same, layout}
 use Rattle.meaning.proofs.Pairs.{Alike, dones, cuts, faults, next, next-left, next-right, Both, outer, like, charge-like, charge-both}
 use Rattle.meaning.proofs.Bindings.{no-names}
-use Rattle.meaning.proofs.Frames.{Zeros, zeroed-zeros, declare-ok, enter-like}
-use Rattle.meaning.proofs.Steps.{acts-ok, ranked-ok}
+use Rattle.meaning.proofs.FrameObjects.{Zeros, zeroed-zeros, declare-ok, enter-like}
+use Rattle.meaning.proofs.ActionObjects.{acts-ok, ranked-ok}
 
 -- before the outermost variables come to be: k charges, and a frame up to U
 record Opening (M k U : ℕ) (s : State) (w : World) : Type 0 where

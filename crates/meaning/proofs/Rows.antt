@@ -22,7 +22,7 @@ use Rattle.meaning.proofs.Cells.{Private, Free, mem-set, mem-zero, mem-move}
 use Rattle.meaning.proofs.Tracks.{Setting, tick, mach, now, Ends, charged, fault-here}
 use Rattle.meaning.proofs.Scopes.{Sits}
 use Rattle.meaning.proofs.Effects.{within-ok, copy-ok, advance}
-use Rattle.meaning.proofs.Exprs.{S, in-memory}
+use Rattle.meaning.proofs.ExpressionRuns.{S, in-memory}
 
 module _ (g : Setting) (B : List ℕ) (L : Private) (T low : ℕ) where
   -- a charge with nothing after it

@@ -13,11 +13,18 @@ use Rattle.meaning.specs.Small.{Written, Small}
 abbrev pub Accepted-is-sound : Type 0
 Accepted-is-sound = (t : BlockTree) (b : Block) → judged t ≡ accepted b → Sound b
 
--- a tree in which no stage finds a break is accepted, and a tree that is not has a break to show
-abbrev pub Unbroken-is-accepted : Type 0
-Unbroken-is-accepted =
-    ((t : BlockTree) → deep-block t 1 0 ≡ [] → names-block t [] ≡ [] → kinds-block t [] ≡ [] → large-program t ≡ [] → (b : Block) × (judged t ≡ accepted b))
-    × ((t : BlockTree) → judged t ≡ one-of [] → ⊥)
+-- no stage finds a break
+pub record Unbroken (t : BlockTree) : Type 0 where
+  pub depth : deep-block t 1 0 ≡ []
+  pub names : names-block t [] ≡ []
+  pub kinds : kinds-block t [] ≡ []
+  pub sizes : large-program t ≡ []
+
+-- accepted exactly if unbroken; and a tree that is not accepted has a break to show
+pub record Unbroken-is-accepted : Type 0 where
+  pub accepts : (t : BlockTree) → Unbroken t → (b : Block) × (judged t ≡ accepted b)
+  pub only : (t : BlockTree) (b : Block) → judged t ≡ accepted b → Unbroken t
+  pub shows : (t : BlockTree) → judged t ≡ one-of [] → ⊥
 
 -- P: a test that each number in the source passes, and 0 and 1, which stand for false and true
 abbrev pub Accepted-is-small : Type 0

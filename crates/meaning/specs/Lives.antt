@@ -70,7 +70,7 @@ step-cause (runs t r) m k =
     cond (is-going (r .standing)) (cond (eqb m (length (t .cells))) (cond (leb (r .count + k) most-count) None (Some 33)) (Some 34)) (Some 32)
 
 module _ (rule-of : Source → Option Block) where
-  -- the source of code on a shelf, if it has one: that of the load that filled the shelf, unaltered since
+  -- Code has a source if it is what an accepted load of that source leaves on a shelf, by whichever engine, unaltered since.
   abbrev pub Filled : Option Source → List Instruction → Type 0
   Filled None c = Unit {0}
   Filled (Some s) c = (b : Block) × (rule-of s ≡ Some b) × (c ≡ program b)
@@ -84,7 +84,8 @@ module _ (rule-of : Source → Option Block) where
     pub capacity : after .capacity ≡ before .capacity
     pub cost : after .cost ≡ before .cost
 
-  -- shelves are no part of it: a call names the one that it is given by its meaning, so that what happens to others does not matter
+  -- A constructor for each call and outcome. Shelves are no part of it: a call names the one that it is given by its meaning,
+  -- so that what happens to others does not matter.
   pub data Life : Engine → Type 0 where
     made : Life no-run
     loaded : {e : Engine} (s : Source) (before after : Shelf) → Loads s before after → Life e → Life no-run

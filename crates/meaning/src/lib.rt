@@ -58,7 +58,7 @@ pub fn accepted_is_typed() -> u8
     0
 }
 
-// A tree in which no stage finds a break is accepted.
+// A tree is accepted exactly if no stage finds a break in it, and one that is not accepted has a break to show.
 pub fn unbroken_is_accepted() -> u8
     ensures { λ _. ⌜ Unbroken-is-accepted ⌝ }
 {

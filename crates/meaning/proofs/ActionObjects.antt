@@ -25,9 +25,9 @@ use Rattle.meaning.proofs.Cells.{patched-length, patched-before}
 use Rattle.meaning.proofs.Stretches.{Layout, Apart, Store, Grown, layout, store-cut, store-cells, grown-same, grown-append}
 use Rattle.meaning.proofs.Pairs.{Alike, dones, cuts, faults, next, next-left, next-right, Both, outer, like, charge-both}
 use Rattle.meaning.proofs.Bindings.{Bound, no-names, a-cell, a-reference, a-procedure}
-use Rattle.meaning.proofs.Values.{Valued, Placed, place-ok, value-ok, save-ok, move-ok}
-use Rattle.meaning.proofs.Frames.{Zeros, zeroed-zeros, declare-ok, enter-ok, left}
-use Rattle.meaning.proofs.Givens.{arguments-ok}
+use Rattle.meaning.proofs.ExpressionObjects.{Valued, Placed, place-ok, value-ok, save-ok, move-ok}
+use Rattle.meaning.proofs.FrameObjects.{Zeros, zeroed-zeros, declare-ok, enter-ok, left}
+use Rattle.meaning.proofs.ArgumentObjects.{arguments-ok}
 
 -- what runs actions
 abbrev pub Tracks : Block → ℕ → (Action → Objects.Env → State → Objects.Outcome Unit) → (Action → Evaluation.Env → ℕ → World → Evaluation.Outcome Unit) → Type 0

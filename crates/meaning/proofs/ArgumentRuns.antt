@@ -1,4 +1,4 @@
--- A call's arguments.
+-- A call's arguments: their code beside their evaluation over addresses.
 use Prim.Native.Nat.{ℕ, suc, _+_, _≤_}
 use mathlib.Core.Path.{_≡_, refl, sym, subst}
 use mathlib.Core.Logic.{_≢_}
@@ -23,7 +23,7 @@ use Rattle.meaning.proofs.Tracks.{Setting, tick, mach, Ends, ends-bind, ends-a
 use Rattle.meaning.proofs.Scopes.{Sits, sits-left, sits-right, sits-at, Rel, fixed-same, rel-more}
 use Rattle.meaning.proofs.Effects.{room-ok, made-ok, within-ok, advance}
 use Rattle.meaning.proofs.Lengths.{place-long, value-long, argument-long}
-use Rattle.meaning.proofs.Exprs.{S, AtPlace, plain, small-address, in-memory, place-ok, value-ok}
+use Rattle.meaning.proofs.ExpressionRuns.{S, AtPlace, plain, small-address, in-memory, place-ok, value-ok}
 use Rattle.meaning.proofs.Rows.{copy-row}
 
 -- B, L, T: bases, private cells and open cells before the call; B₁: the bases inside; T₁: open cells inside; the frame begins at `start`

@@ -1,4 +1,4 @@
--- The names that a block declares.
+-- The names that a block declares, beside their entries in the code's scope.
 use Prim.Native.Nat.{ℕ, suc, _+_, _≤_}
 use mathlib.Core.Path.{_≡_, refl}
 use mathlib.Core.List.{List, [], _∷_, _++_}

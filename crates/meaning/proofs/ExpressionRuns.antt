@@ -1,4 +1,4 @@
--- Designators and values.
+-- Designators and values: their code beside their evaluation over addresses.
 use Prim.Native.Nat.{ℕ, suc, _+_, _*_, _^_, _≤_, _<_}
 use mathlib.Core.Path.{_≡_, refl, sym, ap, _∙_, subst}
 use mathlib.Core.List.{List, [], _∷_}

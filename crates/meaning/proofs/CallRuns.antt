@@ -1,4 +1,4 @@
--- A call: the frame, the arguments, the body and the return.
+-- A call: the frame, the arguments, the body and the return, beside their code.
 use Prim.Native.Nat.{ℕ, suc, _+_, _≤_, _<_}
 use mathlib.Core.Path.{_≡_, refl, sym, ap, _∙_, subst}
 use mathlib.Core.List.{List, [], _∷_, _++_}
@@ -26,7 +26,7 @@ use Rattle.meaning.proofs.Scopes.{Sits, sits-left, sits-right, Below, below-mo
 use Rattle.meaning.proofs.Effects.{within-ok, advance}
 use Rattle.meaning.proofs.Lengths.{arguments-long}
 use Rattle.meaning.proofs.Rows.{relow}
-use Rattle.meaning.proofs.Args.{Passed, arguments-ok}
+use Rattle.meaning.proofs.ArgumentRuns.{Passed, arguments-ok}
 
 pub below-formals : (fs : List Formal) (l k m : ℕ) (Γ : Scope) → l < m → Below m Γ → Below m (formals fs l k Γ)
 below-formals [] l k m Γ h b = b

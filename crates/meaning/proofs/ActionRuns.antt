@@ -1,4 +1,4 @@
--- Actions, blocks and the bodies of procedures.
+-- Actions, blocks and the bodies of procedures: their code beside their evaluation over addresses.
 use Prim.Native.Nat.{ℕ, zero, suc, _+_, _≤_, _<_}
 use mathlib.Core.Path.{_≡_, refl, sym, subst}
 use mathlib.Core.List.{List, [], _∷_, _++_}
@@ -25,10 +25,10 @@ use Rattle.meaning.proofs.Cells.{Private, Free}
 use Rattle.meaning.proofs.Tracks.{Setting, St, tick, now, Ends, ends-bind}
 use Rattle.meaning.proofs.Scopes.{Sits, sits-left, sits-right, sits-at, Rel, RelProc}
 use Rattle.meaning.proofs.Lengths.{Shape, place-long, value-long, action-long, block-long, zeroing-long, procs-action-long, procs-declared-long, procs-block-long}
-use Rattle.meaning.proofs.Exprs.{plain, place-ok, value-ok}
+use Rattle.meaning.proofs.ExpressionRuns.{plain, place-ok, value-ok}
 use Rattle.meaning.proofs.Rows.{last, relow, copy-row, jump-row, branch-row, said-row, heard-row, own-row}
-use Rattle.meaning.proofs.Names.{rel-shape, rel-declared, below-declared}
-use Rattle.meaning.proofs.Calls.{Ready, Act, Tracked, call-ok}
+use Rattle.meaning.proofs.NameRuns.{rel-shape, rel-declared, below-declared}
+use Rattle.meaning.proofs.CallRuns.{Ready, Act, Tracked, call-ok}
 
 pub record Acts (g : Setting) (L : Private) (T : ℕ) (Γ : Scope) (σ : List Slot) (l k free pc t : ℕ) (xs : Actions) : Type 0 where
   pub code : Sits (g .code) (Code.actions xs Γ l k pc t) pc

@@ -18,8 +18,8 @@ use Rattle.meaning.proofs.Cells.{patched-length, patched-before, patched-in}
 use Rattle.meaning.proofs.Stretches.{Layout, Apart, Grown, push, apart-push, apart-more, grown-append, grown-more}
 use Rattle.meaning.proofs.Pairs.{Alike, dones, next, Both, outer, charge-both, Place-at}
 use Rattle.meaning.proofs.Bindings.{Bound, a-cell, a-reference, grown-bound}
-use Rattle.meaning.proofs.Values.{place-ok, value-ok, part-same, part-long, stretch-long}
-use Rattle.meaning.proofs.Frames.{both-push, place-new}
+use Rattle.meaning.proofs.ExpressionObjects.{place-ok, value-ok, part-same, part-long, stretch-long}
+use Rattle.meaning.proofs.FrameObjects.{both-push, place-new}
 
 -- P: the caller's objects; U: where the new frame ends
 module _ (b : Block) (n M : ℕ) (P : Layout) (U : ℕ) {ρ : Objects.Env} {τ : Evaluation.Env} {σ : List Slot} (caller : Bound P ρ τ σ) where
