@@ -140,7 +140,7 @@ all-join t l r d w =
     made (ap (λ x. deep-all (expressions x) d) w
     ∙ along (λ es. deep-all es d) (is (t .kind) Comma) (expression l ∷ expressions r) (expression (join t l r) ∷ [])
     ∙ ap (λ x. cond (is (t .kind) Comma) (deep (expression l) d ++ deep-all (expressions r) d) x)
-      (append-nil (deep (expression (join t l r)) d) ∙ ap (λ x. deep (expression x) d) (sym w)))
+    (append-nil (deep (expression (join t l r)) d) ∙ ap (λ x. deep (expression x) d) (sym w)))
 
 pub arguments-leaf : {u : Tree} (t : Token) (d : ℕ) → u ≡ leaf t → Made (deep-all (arguments u) d) done
 arguments-leaf t d w = made (ap (λ x. deep-all (arguments x) d) w)
@@ -197,8 +197,8 @@ deep-statements-cond b x y d l = along (λ e. deep-statements e d l) b x y
 
 spread-statements : (t : Tree) (more : Statements) (d l : ℕ) →
     deep-statements (statements t more) d l ≡ deep-statements (statements t Statements.no-statement) d l ++ deep-statements more d l
-spread-statements (leaf t) more d l = simp (append-assoc, append-nil)
-spread-statements (under t e) more d l = simp (deep-statements-cond, behind, append-assoc, append-nil)
+spread-statements (leaf t) more d l = simp append-nil
+spread-statements (under t e) more d l = simp (deep-statements-cond, behind, append-nil)
 spread-statements (join t a b) more d l =
     let first = spread-statements a in
     let second = spread-statements b in
@@ -278,4 +278,4 @@ block-under t e d l w = made (ap (λ x. deep-block (block x) d l) w ∙ simp add
 
 pub block-join : {u : Tree} (t : Token) (a b : Tree) (d l : ℕ) → u ≡ join t a b → Made (deep-block (block u) d l) (last (deeper 96 d (t .place)))
 block-join t a b d l w = made (ap (λ x. deep-block (block x) d l) w ∙ append-nil (deeper 96 d (t .place))
-)
+    )

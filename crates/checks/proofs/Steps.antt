@@ -69,3 +69,7 @@ made e = record { is = e }
 
 pub by : {X F : Type 0} {f : F → Break} {r : Result X F} {A : List Break} {p : Plan} → Made A p → Goes f r p → Tells f r A
 by {f = f} {r = r} {A = A} {p = p} e k = subst (λ x. Tells f r x) (sym (e .is)) (let h : Tells f r (breaks p) = record { first = k .first } in h)
+
+-- a place under another name
+pub at-place : {X F : Type 0} {f : F → Break} {r : Result X F} (g : ℕ → List Break) {p q : ℕ} → p ≡ q → Tells f r (g p) → Tells f r (g q)
+at-place {f = f} {r = r} g e k = subst (λ x. Tells f r (g x)) e k

@@ -8,6 +8,7 @@ use Rattle.std.specs.declared.result.Result.the-variants.{Ok, Err}
 use Rattle.tiny.specs.declared.placed.Placed.{Placed}
 use Rattle.meaning.specs.Stages.{Break}
 use Rattle.checks.specs.declared.faults.DepthCause.{DepthCause}
+use Rattle.checks.specs.Numbers.{depth-number}
 
 abbrev pub first-break : List Break → Option Break
 first-break [] = None
@@ -22,6 +23,5 @@ named-break f (Err e) = Some (f e)
 pub record Tells {X F : Type 0} (f : F → Break) (r : Result X F) (bs : List Break) : Type 0 where
   pub first : named-break f r ≡ first-break bs
 
--- both causes are number 7
 abbrev pub depth-break : Placed DepthCause → Break
-depth-break f = record { number = 7; at = f .place }
+depth-break f = record { number = depth-number (f .what); at = f .place }

@@ -1,5 +1,7 @@
 // Why a tree is refused by its depth.
 use tiny::placed::Placed;
+ghost use mathlib.Core.Path.{_≡_};
+ghost use Rattle.checks.specs.Numbers.{depth-number};
 
 #[derive(Clone, Copy, PartialEq, Eq, Debug)]
 pub enum DepthCause {
@@ -10,3 +12,15 @@ pub enum DepthCause {
 }
 
 pub type DepthFault = Placed<DepthCause>;
+
+impl DepthCause {
+    // The refusal's number in the list of refusals.
+    pub fn number(self) -> u8
+        ensures { λ r. ⌜ r ≡ depth-number self ⌝ }
+    {
+        match self {
+            DepthCause::Node => 7,
+            DepthCause::Procedure => 7,
+        }
+    }
+}
