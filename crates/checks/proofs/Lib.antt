@@ -1,0 +1,4 @@
+pub mod Shown
+pub mod Steps
+pub mod DepthViews
+pub mod Ready

@@ -1,0 +1,4 @@
+pub mod Breaks
+pub mod Depth
+pub mod Numbers
+pub mod Rooted

@@ -1,0 +1,4 @@
+// What is checked of a tree in its table, before its kinds and types: depth, and names.
+pub mod depth;
+pub mod faults;
+mod parts;
