@@ -1,16 +1,19 @@
-// Parses each line of a file as a rule of its own, and prints what becomes of it.
+// Parses each line of a file as a rule of its own, then some rules that nest as deep as they can, and
+// prints what becomes of each.
 use parser::faults::ParseFault;
 use parser::parse::parse;
+use std::alloc::AllocError;
+use std::alloc::Global;
 use std::fs;
 use std::io;
 use tables::nodes::Node;
 use tables::table::Table;
 
-// What the parser answers: how many records the tree has, or the refusal's number and place.
+// What the parser answers: a tree, or the refusal's number and place.
 fn answer(source: &[u8], cells: &mut [Node]) -> Answer {
     let mut nodes = Table::over(cells);
     match parse(source, &mut nodes) {
-        Ok(_root) => Answer::Tree(nodes.len()),
+        Ok(_root) => Answer::Tree,
         Err(ParseFault::Scan(fault)) => Answer::Refused(fault.what.number(), fault.place),
         Err(ParseFault::Syntax(fault)) => Answer::Refused(6, fault.place),
         Err(ParseFault::Full) => Answer::Refused(1, 0),
@@ -19,8 +22,24 @@ fn answer(source: &[u8], cells: &mut [Node]) -> Answer {
 
 #[derive(Clone, Copy)]
 enum Answer {
-    Tree(usize),
+    Tree,
     Refused(u8, usize),
+}
+
+// A source of 2,048 tokens: the head, and then the part again and again.
+fn nested(heap: Global, head: &str, part: &str, times: usize) -> Result<String, AllocError> {
+    let mut source = String::from_str(heap, head)?;
+    for _ in 0..times {
+        source.push_str(part)?;
+    }
+    Ok(source)
+}
+
+fn tell(rt: &LibcRuntime, answer: Answer, name: &str) -> io::Result<()> {
+    match answer {
+        Answer::Tree => println!(rt, "accepted   {name}"),
+        Answer::Refused(number, place) => println!(rt, "{number} at {place:<4}  {name}"),
+    }
 }
 
 fn main(rt: LibcRuntime) -> io::Result<()> {
@@ -28,10 +47,36 @@ fn main(rt: LibcRuntime) -> io::Result<()> {
     let text = fs::read_to_string(&rt, "sources.txt")?;
     let mut cells = vec![in heap; Node::Blank; 2048]?;
     for line in text.as_str().lines() {
-        match answer(line.as_bytes(), cells.as_mut_slice()) {
-            Answer::Tree(records) => println!(rt, "{records:>3} records  {line}")?,
-            Answer::Refused(number, place) => println!(rt, "{number} at {place:>3}     {line}")?,
-        }
+        tell(&rt, answer(line.as_bytes(), cells.as_mut_slice()), line)?;
     }
-    Ok(())
+    let parentheses = nested(heap, "{@", "(", 2046)?;
+    tell(
+        &rt,
+        answer(parentheses.as_bytes(), cells.as_mut_slice()),
+        "2046 parentheses",
+    )?;
+    let braces = nested(heap, "", "{", 2048)?;
+    tell(
+        &rt,
+        answer(braces.as_bytes(), cells.as_mut_slice()),
+        "2048 braces",
+    )?;
+    let signs = nested(heap, "{@", "-", 2046)?;
+    tell(
+        &rt,
+        answer(signs.as_bytes(), cells.as_mut_slice()),
+        "2046 signs",
+    )?;
+    let brackets = nested(heap, "{@x", "[x", 1022)?;
+    tell(
+        &rt,
+        answer(brackets.as_bytes(), cells.as_mut_slice()),
+        "1022 brackets",
+    )?;
+    let conditions = nested(heap, "{", "if x{", 682)?;
+    tell(
+        &rt,
+        answer(conditions.as_bytes(), cells.as_mut_slice()),
+        "682 conditions",
+    )
 }
