@@ -200,7 +200,7 @@ module _ (N : ℕ) (few : N < 2 ^ 31) where
         (procs-actions-lawful xs (declared ds l k t Γ) (slots ds σ) l (k + own-size ds) (t + declared-procs ds) h (omega arith) (omega arith) (s .1) (f .1)
         (declared-lawful ds l k t Γ σ h (omega arith) (omega arith) (s .0) (f .0) g))
 
-program-long : (b : Block) → FitsBlock b [] 0 → length (program b) ≡ 1 + (1 + (block-length b + (1 + block-procs b)))
+pub program-long : (b : Block) → FitsBlock b [] 0 → length (program b) ≡ 1 + (1 + (block-length b + (1 + block-procs b)))
 program-long b f = headed _ _ (headed _ _ (joined (block b [] 0 2 2 (block-length b + 3)) _ (block-length b) (1 + block-procs b) (block-long b [] [] 0 2 2 (block-length b + 3) tt f)
     (headed _ (block-procs b) (procs-block-long b [] [] 0 2 (block-length b + 3) tt f))))
 

@@ -16,6 +16,7 @@ pub mod Sound
 pub mod Small
 pub mod Accepted
 pub mod Lawful
+pub mod Short
 -- laws, the agreement of meaning and run, and lives
 pub mod Laws
 pub mod MeaningLaws

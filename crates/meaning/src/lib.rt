@@ -8,6 +8,7 @@ ghost use Rattle.meaning.specs.Halves.{Objects-agree, Addresses-agree};
 ghost use Rattle.meaning.specs.Lawful.{Accepted-is-lawful};
 ghost use Rattle.meaning.specs.Laws.{RunLaws};
 ghost use Rattle.meaning.specs.MeaningLaws.{MeaningLaws};
+ghost use Rattle.meaning.specs.Short.{Code-is-short};
 ghost use Rattle.meaning.specs.Typing.{Accepted-is-typed, Typed-is-accepted};
 ghost use Rattle.meaning.specs.Lives.{Lives-agree, Judged-rules-sound, Budgets-free, Runs-bounded, Steps-spend, Load-carries, Open-carries, Step-carries};
 
@@ -75,6 +76,13 @@ pub fn accepted_is_small() -> u8
 // Every instruction of an accepted rule's code is lawful, so that a shelf takes it.
 pub fn accepted_is_lawful() -> u8
     ensures { λ _. ⌜ Accepted-is-lawful ⌝ }
+{
+    0
+}
+
+// The code of an accepted rule has at most six instructions for each node of the tree, and three.
+pub fn code_is_short() -> u8
+    ensures { λ _. ⌜ Code-is-short ⌝ }
 {
     0
 }
