@@ -6,16 +6,17 @@ use mathlib.Core.Bool.{Bool}
 use native.Mathlib.Omega.{arith}
 use Rattle.tiny.specs.Tree.{Name, Expression, Statement, Statements, DeclarationTrees, BlockTree}
 use Rattle.tiny.specs.Tree as Tree
-use Rattle.meaning.specs.Rule.{Place, Value, Argument, Formal, Block}
+use Rattle.meaning.specs.Rule.{Value, Argument, Formal}
 use Rattle.meaning.specs.Rule as Rule
-use Rattle.meaning.specs.Types.{Ty, int, bool, array, struct, Members, no-member, member, size, fits, scalar, Meaning, variable, reference, type-name, procedure, Scope, same-name, meaning-of, number-of, Typed, type-of, Form, place, value, copies, Formed, when-form, on-place, read-of, named-as, allowed, signature, operand, element-of, selected, field-of, form-of}
+use Rattle.meaning.specs.Types.{Ty, int, bool, array, struct, Members, no-member, member, size, fits, scalar, Meaning, variable, reference, type-name, procedure, Scope, same-name, meaning-of, number-of, Typed, type-of, Form, place, value, copies, Formed, read-of, named-as, allowed, signature, operand, element-of, selected, field-of, form-of}
 use Rattle.meaning.specs.Types as Types
-use Rattle.meaning.specs.Statements.{Acted, Blocked, Listed, Declares, Given, when-expression, when-block, test, dropped, onto, by-scalar, argument, aggregate, given-one, join, given, forms-of, calling, called, meant, declare, local, unseen, proc, then, with-actions, scope-of, inside, signature-of, procedure-scope, action-of, actions-of, declarations-of, block-of}
+use Rattle.meaning.specs.Statements.{Acted, Blocked, Listed, Declares, Given, test, dropped, onto, by-scalar, argument, aggregate, given-one, join, given, forms-of, calling, called, meant, declare, local, unseen, proc, then, with-actions, scope-of, inside, signature-of, procedure-scope, action-of, actions-of, declarations-of, block-of}
 use Rattle.meaning.specs.Statements as Statements
 use Rattle.meaning.specs.Sizes.{own-size}
 use Rattle.meaning.specs.Code.{place-length, value-length, own-length, arguments-length, action-length, actions-length, block-length, action-procs, actions-procs, declared-procs, block-procs}
 use Rattle.meaning.specs.Short.{nodes, nodes-all, statement-nodes, statements-nodes, declarations-nodes, block-nodes, Code-is-short}
 use Rattle.meaning.proofs.Nil.{either}
+use Rattle.meaning.proofs.Parts.{IfFormed, IfBlocked, after-form, after-expression, after-block, at-place}
 use Rattle.meaning.proofs.Passed.{passed}
 use Rattle.meaning.proofs.Accepted.{accepted-sound}
 use Rattle.meaning.proofs.Lawful.{program-long}
@@ -28,9 +29,7 @@ ShortForm (value v) n = value-length v ≤ 3 * n
 ShortForm (copies p q m) n = place-length p + (place-length q + 1) ≤ 3 * n
 
 abbrev ShortFormed : ℕ → Formed → Type 0
-ShortFormed n (Types.Formed.sound f t) = ShortForm f n
-ShortFormed n (Types.Formed.broken m) = Unit {0}
-ShortFormed n Types.Formed.unsound = Unit {0}
+ShortFormed n = IfFormed (λ f t. ShortForm f n)
 
 read-short : (f : Form) (n : ℕ) → 1 ≤ n → ShortForm f n → value-length (read-of f) ≤ 3 * n
 read-short (place p) n l h = h
@@ -47,16 +46,6 @@ one-node (Tree.unary at o e) = omega arith
 one-node (Tree.index at d e) = omega arith
 one-node (Tree.select at d x) = omega arith
 
-on-form : (Q : Formed → Type 0) (n : ℕ) (x : Formed) (k : Form → Ty → Formed) → Q Types.Formed.unsound → ShortFormed n x → ((f : Form) (t : Ty) → ShortForm f n → Q (k f t)) → Q (when-form x k)
-on-form Q n (Types.Formed.sound f t) k u h g = g f t h
-on-form Q n (Types.Formed.broken m) k u h g = u
-on-form Q n Types.Formed.unsound k u h g = u
-
-at-place : (Q : Formed → Type 0) (n : ℕ) (f : Form) (k : Place → Formed) → Q (Types.Formed.broken 12) → ShortForm f n → ((p : Place) → place-length p + 1 ≤ 3 * n → Q (k p)) → Q (on-place f k)
-at-place Q n (place p) k u h g = g p h
-at-place Q n (value v) k u h g = u
-at-place Q n (copies p q m) k u h g = u
-
 name-short : (i : ℕ) (m : Meaning) → ShortFormed 1 (named-as i m)
 name-short i (variable t) = omega arith
 name-short i (reference t) = omega arith
@@ -68,13 +57,13 @@ element-short : (n m : ℕ) (t : Ty) (f : Form) (v : Value) (b : Bool) → Short
 element-short n m int f v b h k = tt
 element-short n m bool f v b h k = tt
 element-short n m (array t s) f v b h k =
-    either (ShortFormed (1 + n + m)) b _ _ (λ _. at-place (ShortFormed (1 + n + m)) n f _ tt h (λ p i. omega arith)) tt
+    either (ShortFormed (1 + n + m)) b _ _ (λ _. at-place (λ f. ShortForm f n) (ShortFormed (1 + n + m)) f _ tt h (λ p i. omega arith)) tt
 element-short n m (struct ms) f v b h k = tt
 
 selected-short : (n : ℕ) (ms : Members) (x : Name) (f : Form) (k : ℕ) → ShortForm f n → ShortFormed (1 + n) (selected ms x f k)
 selected-short n no-member x f k h = tt
 selected-short n (member y t ms) x f k h =
-    either (ShortFormed (1 + n)) (same-name x y) _ _ (λ _. at-place (ShortFormed (1 + n)) n f _ tt h (λ p i. omega arith)) (selected-short n ms x f (k + size t) h)
+    either (ShortFormed (1 + n)) (same-name x y) _ _ (λ _. at-place (λ f. ShortForm f n) (ShortFormed (1 + n)) f _ tt h (λ p i. omega arith)) (selected-short n ms x f (k + size t) h)
 
 field-short : (n : ℕ) (t : Ty) (x : Name) (f : Form) → ShortForm f n → ShortFormed (1 + n) (field-of t x f)
 field-short n int x f h = tt
@@ -88,22 +77,22 @@ form-short (Tree.truth at b) Γ = omega arith
 form-short (Tree.name at x) Γ = name-short (number-of x Γ) (meaning-of x Γ)
 form-short (Tree.assign at d e) Γ =
     let Q : Formed → Type 0 = ShortFormed (1 + nodes d + nodes e) in
-    on-form Q (nodes d) (form-of d Γ) _ tt (form-short d Γ) (λ f t h. on-form Q (nodes e) (form-of e Γ) _ tt (form-short e Γ) (λ g u i.
-    either Q (fits t u) _ _ (λ _. at-place Q (nodes d) f _ tt h (λ p j.
-    either Q (scalar t) _ _ (λ _. let k = read-short g (nodes e) (one-node e) i in omega arith) (at-place Q (nodes e) g _ tt i (λ q k. omega arith)))) tt))
+    after-form (λ f t. ShortForm f (nodes d)) Q (form-of d Γ) _ tt (form-short d Γ) (λ f t h. after-form (λ f t. ShortForm f (nodes e)) Q (form-of e Γ) _ tt (form-short e Γ) (λ g u i.
+    either Q (fits t u) _ _ (λ _. at-place (λ f. ShortForm f (nodes d)) Q f _ tt h (λ p j.
+    either Q (scalar t) _ _ (λ _. let k = read-short g (nodes e) (one-node e) i in omega arith) (at-place (λ f. ShortForm f (nodes e)) Q g _ tt i (λ q k. omega arith)))) tt))
 form-short (Tree.binary at o d e) Γ =
     let Q : Formed → Type 0 = ShortFormed (1 + nodes d + nodes e) in
-    on-form Q (nodes d) (form-of d Γ) _ tt (form-short d Γ) (λ f t h. on-form Q (nodes e) (form-of e Γ) _ tt (form-short e Γ) (λ g u i.
+    after-form (λ f t. ShortForm f (nodes d)) Q (form-of d Γ) _ tt (form-short d Γ) (λ f t h. after-form (λ f t. ShortForm f (nodes e)) Q (form-of e Γ) _ tt (form-short e Γ) (λ g u i.
     either Q (allowed (signature o) t u) _ _ (λ _. let j = read-short f (nodes d) (one-node d) h in let k = read-short g (nodes e) (one-node e) i in omega arith) tt))
 form-short (Tree.unary at o e) Γ =
     let Q : Formed → Type 0 = ShortFormed (1 + nodes e) in
-    on-form Q (nodes e) (form-of e Γ) _ tt (form-short e Γ) (λ f t h. either Q (fits (operand o) t) _ _ (λ _. let k = read-short f (nodes e) (one-node e) h in omega arith) tt)
+    after-form (λ f t. ShortForm f (nodes e)) Q (form-of e Γ) _ tt (form-short e Γ) (λ f t h. either Q (fits (operand o) t) _ _ (λ _. let k = read-short f (nodes e) (one-node e) h in omega arith) tt)
 form-short (Tree.index at d e) Γ =
     let Q : Formed → Type 0 = ShortFormed (1 + nodes d + nodes e) in
-    on-form Q (nodes d) (form-of d Γ) _ tt (form-short d Γ) (λ f t h. on-form Q (nodes e) (form-of e Γ) _ tt (form-short e Γ) (λ g u i.
+    after-form (λ f t. ShortForm f (nodes d)) Q (form-of d Γ) _ tt (form-short d Γ) (λ f t h. after-form (λ f t. ShortForm f (nodes e)) Q (form-of e Γ) _ tt (form-short e Γ) (λ g u i.
     element-short (nodes d) (nodes e) t f (read-of g) (fits int u) h (read-short g (nodes e) (one-node e) i)))
 form-short (Tree.select at d x) Γ =
-    on-form (ShortFormed (1 + nodes d)) (nodes d) (form-of d Γ) _ tt (form-short d Γ) (λ f t h. field-short (nodes d) t x f h)
+    after-form (λ f t. ShortForm f (nodes d)) (ShortFormed (1 + nodes d)) (form-of d Γ) _ tt (form-short d Γ) (λ f t h. field-short (nodes d) t x f h)
 
 -- Calls: at most six instructions a node of the arguments.
 
@@ -173,22 +162,12 @@ ShortDeclares n (Statements.Declares.sound ds) = declared-procs ds ≤ 6 * n
 ShortDeclares n Statements.Declares.unsound = Unit {0}
 
 abbrev ShortBlocked : ℕ → Blocked → Type 0
-ShortBlocked n (Statements.Blocked.sound b) = block-length b + block-procs b ≤ 6 * n
-ShortBlocked n Statements.Blocked.unsound = Unit {0}
-
-act-form : (Q : Acted → Type 0) (n : ℕ) (x : Formed) (k : Form → Ty → Acted) → Q Statements.Acted.unsound → ShortFormed n x → ((f : Form) (t : Ty) → ShortForm f n → Q (k f t)) → Q (when-expression x k)
-act-form Q n (Types.Formed.sound f t) k u h g = g f t h
-act-form Q n (Types.Formed.broken m) k u h g = u
-act-form Q n Types.Formed.unsound k u h g = u
-
-act-block : (Q : Acted → Type 0) (n : ℕ) (x : Blocked) (k : Block → Acted) → Q Statements.Acted.unsound → ShortBlocked n x → ((b : Block) → block-length b + block-procs b ≤ 6 * n → Q (k b)) → Q (when-block x k)
-act-block Q n (Statements.Blocked.sound b) k u h g = g b h
-act-block Q n Statements.Blocked.unsound k u h g = u
+ShortBlocked n = IfBlocked (λ b. block-length b + block-procs b ≤ 6 * n)
 
 act-test : (Q : Acted → Type 0) (e : Expression) (Γ : Scope) (k : Value → Acted) → Q Statements.Acted.unsound → Q (Statements.Acted.broken 11) →
     ((v : Value) → value-length v ≤ 3 * nodes e → Q (k v)) → Q (test (form-of e Γ) k)
 act-test Q e Γ k u w g =
-    act-form Q (nodes e) (form-of e Γ) _ u (form-short e Γ) (λ f t h. either Q (fits bool t) _ _ (λ _. g (read-of f) (read-short f (nodes e) (one-node e) h)) w)
+    after-expression (λ f t. ShortForm f (nodes e)) Q (form-of e Γ) _ u (form-short e Γ) (λ f t h. either Q (fits bool t) _ _ (λ _. g (read-of f) (read-short f (nodes e) (one-node e) h)) w)
 
 dropped-short : (n : ℕ) (f : Form) → ShortForm f n → action-length (dropped f) + action-procs (dropped f) ≤ 6 * (1 + n)
 dropped-short n (place p) h = omega arith
@@ -260,22 +239,22 @@ whole-short n m Statements.Declares.unsound xs h k = tt
 
 mutual
   action-short : (s : Statement) (Γ : Scope) → ShortActed (statement-nodes s) (action-of s Γ)
-  action-short (Tree.eval at e) Γ = act-form (ShortActed (1 + nodes e)) (nodes e) (form-of e Γ) _ tt (form-short e Γ) (λ f t h. dropped-short (nodes e) f h)
+  action-short (Tree.eval at e) Γ = after-expression (λ f t. ShortForm f (nodes e)) (ShortActed (1 + nodes e)) (form-of e Γ) _ tt (form-short e Γ) (λ f t h. dropped-short (nodes e) f h)
   action-short (Tree.if-then at e b) Γ =
       let Q : Acted → Type 0 = ShortActed (1 + nodes e + block-nodes b) in
-      act-block Q (block-nodes b) (block-of b Γ) _ tt (block-short b Γ) (λ c h. act-test Q e Γ (λ v. Statements.Acted.sound (Rule.choose v c)) tt tt (λ v k. omega arith))
+      after-block (λ x. block-length x + block-procs x ≤ 6 * block-nodes b) Q (block-of b Γ) _ tt (block-short b Γ) (λ c h. act-test Q e Γ (λ v. Statements.Acted.sound (Rule.choose v c)) tt tt (λ v k. omega arith))
   action-short (Tree.if-else at e b c) Γ =
       let Q : Acted → Type 0 = ShortActed (1 + nodes e + block-nodes b + block-nodes c) in
-      act-block Q (block-nodes b) (block-of b Γ) _ tt (block-short b Γ) (λ b′ h. act-block Q (block-nodes c) (block-of c Γ) _ tt (block-short c Γ) (λ c′ i.
+      after-block (λ x. block-length x + block-procs x ≤ 6 * block-nodes b) Q (block-of b Γ) _ tt (block-short b Γ) (λ b′ h. after-block (λ x. block-length x + block-procs x ≤ 6 * block-nodes c) Q (block-of c Γ) _ tt (block-short c Γ) (λ c′ i.
       act-test Q e Γ (λ v. Statements.Acted.sound (Rule.choose-else v b′ c′)) tt tt (λ v k. omega arith)))
   action-short (Tree.while at e b) Γ =
       let Q : Acted → Type 0 = ShortActed (1 + nodes e + block-nodes b) in
-      act-block Q (block-nodes b) (block-of b Γ) _ tt (block-short b Γ) (λ c h. act-test Q e Γ (λ v. Statements.Acted.sound (Rule.repeat v c)) tt tt (λ v k. omega arith))
-  action-short (Tree.read at e) Γ = act-form (ShortActed (1 + nodes e)) (nodes e) (form-of e Γ) _ tt (form-short e Γ) (λ f t h. read-row (nodes e) f t h)
-  action-short (Tree.write at e) Γ = act-form (ShortActed (1 + nodes e)) (nodes e) (form-of e Γ) _ tt (form-short e Γ) (λ f t h. write-row (nodes e) f t (one-node e) h)
+      after-block (λ x. block-length x + block-procs x ≤ 6 * block-nodes b) Q (block-of b Γ) _ tt (block-short b Γ) (λ c h. act-test Q e Γ (λ v. Statements.Acted.sound (Rule.repeat v c)) tt tt (λ v k. omega arith))
+  action-short (Tree.read at e) Γ = after-expression (λ f t. ShortForm f (nodes e)) (ShortActed (1 + nodes e)) (form-of e Γ) _ tt (form-short e Γ) (λ f t h. read-row (nodes e) f t h)
+  action-short (Tree.write at e) Γ = after-expression (λ f t. ShortForm f (nodes e)) (ShortActed (1 + nodes e)) (form-of e Γ) _ tt (form-short e Γ) (λ f t h. write-row (nodes e) f t (one-node e) h)
   action-short (Tree.nl at) Γ = omega arith
   action-short (Tree.call at here x es) Γ = called-short (number-of x Γ) (meaning-of x Γ) es Γ
-  action-short (Tree.compound b) Γ = act-block (ShortActed (block-nodes b)) (block-nodes b) (block-of b Γ) _ tt (block-short b Γ) (λ c h. h)
+  action-short (Tree.compound b) Γ = after-block (λ x. block-length x + block-procs x ≤ 6 * block-nodes b) (ShortActed (block-nodes b)) (block-of b Γ) _ tt (block-short b Γ) (λ c h. h)
 
   actions-short : (ss : Statements) (Γ : Scope) → ShortListed (statements-nodes ss) (actions-of ss Γ)
   actions-short Tree.no-statement Γ = omega arith

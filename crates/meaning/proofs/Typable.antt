@@ -7,19 +7,20 @@ use mathlib.Core.Logic.{_⊎_, inl, inr}
 use lib.Dec.{T}
 use Rattle.tiny.specs.Tree.{Name, TypeTree, Expression, Formals, Statement, Statements, DeclarationTrees, BlockTree}
 use Rattle.tiny.specs.Tree as Tree
-use Rattle.meaning.specs.Rule.{Value, Argument, Formal, Block}
+use Rattle.meaning.specs.Rule.{Value, Argument, Formal}
 use Rattle.meaning.specs.Rule as Rule
 use Rattle.meaning.specs.Types.{Ty, int, bool, array, struct, fits, scalar, Meaning, variable, reference, type-name, procedure, Scope, meaning-of, number-of, Typed, type-of, Form, place, value, copies, Formed, read-of, form-of}
 use Rattle.meaning.specs.Types as Types
-use Rattle.meaning.specs.Statements.{Acted, Blocked, Listed, Given, when-expression, when-block, test, onto, by-scalar, argument, aggregate, given-one, join, given, forms-of, calling, called, meant, declare, passed, still, with-formal, signature-from, formals-from, plain, local, unseen, proc, then, with-actions, scope-of, inside, signature-of, procedure-scope, action-of, actions-of, declarations-of, block-of}
+use Rattle.meaning.specs.Statements.{Acted, Blocked, Listed, Given, test, onto, by-scalar, argument, aggregate, given-one, join, given, forms-of, calling, called, meant, declare, passed, still, with-formal, signature-from, formals-from, plain, local, unseen, proc, then, with-actions, scope-of, inside, signature-of, procedure-scope, action-of, actions-of, declarations-of, block-of}
 use Rattle.meaning.specs.Statements as Statements
 use Rattle.meaning.specs.Typing.{IsType, Designator, HasType, Passes, no-argument, an-argument, AreFormals, no-formals, a-formal, IsFine, eval-fine, if-fine, if-else-fine, while-fine, read-fine, write-fine, nl-fine, call-fine, compound-fine, AreFine, no-statements, a-statement, Declares, no-declarations, a-type, a-procedure, FineBlock, block-fine, Accepted-is-typed}
 use Rattle.meaning.specs.Typing as Typing
 use Rattle.meaning.proofs.Nil.{either}
+use Rattle.meaning.proofs.Parts.{IfBlocked, after-expression, after-block}
 use Rattle.meaning.proofs.Passed.{passed as passes}
 use Rattle.meaning.proofs.Slots.{Paired, Proper, AllProper, proper-meaning}
 use Rattle.meaning.proofs.Signatures.{proper-procedure, proper-inside, proper-local, proper-type, proper-scope}
-use Rattle.meaning.proofs.TypableForms.{TypedAs, type-typed, IsPlace, FormedAs, fits-bool, form-typed}
+use Rattle.meaning.proofs.TypableForms.{TypedAs, type-typed, IsPlace, Well, FormedAs, fits-bool, form-typed}
 
 -- Calls.
 
@@ -123,8 +124,7 @@ ActedAs Γ s (Statements.Acted.broken n) = Unit {0}
 ActedAs Γ s Statements.Acted.unsound = Unit {0}
 
 abbrev BlockedAs : Scope → BlockTree → Blocked → Type 0
-BlockedAs Γ b (Statements.Blocked.sound c) = FineBlock Γ b
-BlockedAs Γ b Statements.Blocked.unsound = Unit {0}
+BlockedAs Γ b = IfBlocked (λ _. FineBlock Γ b)
 
 abbrev ListedAs : Scope → Statements → Listed → Type 0
 ListedAs Γ ss (Statements.Listed.sound xs) = AreFine Γ ss
@@ -134,20 +134,10 @@ abbrev DeclaresAs : Scope → DeclarationTrees → Scope → Statements.Declares
 DeclaresAs Γ ds Θ (Statements.Declares.sound xs) = Declares Γ ds Θ
 DeclaresAs Γ ds Θ Statements.Declares.unsound = Unit {0}
 
-act-form : (Q : Acted → Type 0) (Γ : Scope) (e : Expression) (x : Formed) (k : Form → Ty → Acted) → Q Statements.Acted.unsound → FormedAs Γ e x →
-    ((f : Form) (t : Ty) → HasType Γ e t → (IsPlace f → Designator e) → Q (k f t)) → Q (when-expression x k)
-act-form Q Γ e (Types.Formed.sound f t) k u h g = g f t (h .0) (h .1)
-act-form Q Γ e (Types.Formed.broken n) k u h g = u
-act-form Q Γ e Types.Formed.unsound k u h g = u
-
-act-block : (Q : Acted → Type 0) (Γ : Scope) (b : BlockTree) (x : Blocked) (k : Block → Acted) → Q Statements.Acted.unsound → BlockedAs Γ b x → ((c : Block) → FineBlock Γ b → Q (k c)) → Q (when-block x k)
-act-block Q Γ b (Statements.Blocked.sound c) k u h g = g c h
-act-block Q Γ b Statements.Blocked.unsound k u h g = u
-
 act-test : (Q : Acted → Type 0) (Γ : Scope) (e : Expression) (x : Formed) (k : Value → Acted) → Q Statements.Acted.unsound → Q (Statements.Acted.broken 11) → FormedAs Γ e x →
     ((v : Value) → HasType Γ e bool → Q (k v)) → Q (test x k)
 act-test Q Γ e x k u w h g =
-    act-form Q Γ e x _ u h (λ f t i p. either Q (fits bool t) _ _ (λ ok. g (read-of f) (subst (λ (y : Ty). HasType Γ e y) (fits-bool t ok) i)) w)
+    after-expression (Well Γ e) Q x _ u h (λ f t (i, p). either Q (fits bool t) _ _ (λ ok. g (read-of f) (subst (λ (y : Ty). HasType Γ e y) (fits-bool t ok) i)) w)
 
 read-typed : (Γ : Scope) (at : ℕ) (e : Expression) (f : Form) (t : Ty) → HasType Γ e t → (IsPlace f → Designator e) →
     ActedAs Γ (Tree.read at e) (by-scalar t (onto f (λ p. Statements.Acted.sound (Rule.read-int p))) (onto f (λ p. Statements.Acted.sound (Rule.read-bool p))))
@@ -244,22 +234,22 @@ whole-typed Γ Θ at ds ss Statements.Declares.unsound ys h k = tt
 
 mutual
   action-typed : (s : Statement) (Γ : Scope) → AllProper Γ → ActedAs Γ s (action-of s Γ)
-  action-typed (Tree.eval at e) Γ g = act-form (ActedAs Γ (Tree.eval at e)) Γ e (form-of e Γ) _ tt (form-typed e Γ) (λ f t h p. eval-fine h)
+  action-typed (Tree.eval at e) Γ g = after-expression (Well Γ e) (ActedAs Γ (Tree.eval at e)) (form-of e Γ) _ tt (form-typed e Γ) (λ f t (h, p). eval-fine h)
   action-typed (Tree.if-then at e b) Γ g =
       let Q : Acted → Type 0 = ActedAs Γ (Tree.if-then at e b) in
-      act-block Q Γ b (block-of b Γ) _ tt (block-typed b Γ g) (λ c i. act-test Q Γ e (form-of e Γ) (λ v. Statements.Acted.sound (Rule.choose v c)) tt tt (form-typed e Γ) (λ v h. if-fine h i))
+      after-block (λ _. FineBlock Γ b) Q (block-of b Γ) _ tt (block-typed b Γ g) (λ c i. act-test Q Γ e (form-of e Γ) (λ v. Statements.Acted.sound (Rule.choose v c)) tt tt (form-typed e Γ) (λ v h. if-fine h i))
   action-typed (Tree.if-else at e b c) Γ g =
       let Q : Acted → Type 0 = ActedAs Γ (Tree.if-else at e b c) in
-      act-block Q Γ b (block-of b Γ) _ tt (block-typed b Γ g) (λ b′ i. act-block Q Γ c (block-of c Γ) _ tt (block-typed c Γ g) (λ c′ j.
+      after-block (λ _. FineBlock Γ b) Q (block-of b Γ) _ tt (block-typed b Γ g) (λ b′ i. after-block (λ _. FineBlock Γ c) Q (block-of c Γ) _ tt (block-typed c Γ g) (λ c′ j.
       act-test Q Γ e (form-of e Γ) (λ v. Statements.Acted.sound (Rule.choose-else v b′ c′)) tt tt (form-typed e Γ) (λ v h. if-else-fine h i j)))
   action-typed (Tree.while at e b) Γ g =
       let Q : Acted → Type 0 = ActedAs Γ (Tree.while at e b) in
-      act-block Q Γ b (block-of b Γ) _ tt (block-typed b Γ g) (λ c i. act-test Q Γ e (form-of e Γ) (λ v. Statements.Acted.sound (Rule.repeat v c)) tt tt (form-typed e Γ) (λ v h. while-fine h i))
-  action-typed (Tree.read at e) Γ g = act-form (ActedAs Γ (Tree.read at e)) Γ e (form-of e Γ) _ tt (form-typed e Γ) (λ f t h p. read-typed Γ at e f t h p)
-  action-typed (Tree.write at e) Γ g = act-form (ActedAs Γ (Tree.write at e)) Γ e (form-of e Γ) _ tt (form-typed e Γ) (λ f t h p. write-typed Γ at e f t h)
+      after-block (λ _. FineBlock Γ b) Q (block-of b Γ) _ tt (block-typed b Γ g) (λ c i. act-test Q Γ e (form-of e Γ) (λ v. Statements.Acted.sound (Rule.repeat v c)) tt tt (form-typed e Γ) (λ v h. while-fine h i))
+  action-typed (Tree.read at e) Γ g = after-expression (Well Γ e) (ActedAs Γ (Tree.read at e)) (form-of e Γ) _ tt (form-typed e Γ) (λ f t (h, p). read-typed Γ at e f t h p)
+  action-typed (Tree.write at e) Γ g = after-expression (Well Γ e) (ActedAs Γ (Tree.write at e)) (form-of e Γ) _ tt (form-typed e Γ) (λ f t (h, p). write-typed Γ at e f t h)
   action-typed (Tree.nl at) Γ g = nl-fine
   action-typed (Tree.call at here x es) Γ g = called-typed Γ at here x es (number-of x Γ) (meaning-of x Γ) refl (proper-meaning x Γ g)
-  action-typed (Tree.compound b) Γ g = act-block (ActedAs Γ (Tree.compound b)) Γ b (block-of b Γ) _ tt (block-typed b Γ g) (λ c i. compound-fine i)
+  action-typed (Tree.compound b) Γ g = after-block (λ _. FineBlock Γ b) (ActedAs Γ (Tree.compound b)) (block-of b Γ) _ tt (block-typed b Γ g) (λ c i. compound-fine i)
 
   actions-typed : (ss : Statements) (Γ : Scope) → AllProper Γ → ListedAs Γ ss (actions-of ss Γ)
   actions-typed Tree.no-statement Γ g = no-statements

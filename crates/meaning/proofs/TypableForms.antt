@@ -7,13 +7,14 @@ use lib.Dec.{T}
 use lib.IntN.{ℤ, pos, negsuc}
 use Rattle.tiny.specs.Tree.{Name, TypeTree, Fields, Expression}
 use Rattle.tiny.specs.Tree as Tree
-use Rattle.meaning.specs.Rule.{Place, Value}
+use Rattle.meaning.specs.Rule.{Value}
 use Rattle.meaning.specs.Rule as Rule
-use Rattle.meaning.specs.Types.{Ty, int, bool, array, struct, Members, no-member, member, size, fits, scalar, Meaning, variable, reference, type-name, procedure, Scope, same-name, meaning-of, number-of, Typed, when-type, as-type, sized, Membered, with-member, as-struct, type-of, members-of, Form, place, value, copies, Formed, when-form, on-place, read-of, named-as, allowed, signature, operand, element-of, selected, field-of, form-of}
+use Rattle.meaning.specs.Types.{Ty, int, bool, array, struct, Members, no-member, member, size, fits, scalar, Meaning, variable, reference, type-name, procedure, Scope, same-name, meaning-of, number-of, Typed, when-type, as-type, sized, Membered, with-member, as-struct, type-of, members-of, Form, place, value, copies, Formed, on-place, read-of, named-as, allowed, signature, operand, element-of, selected, field-of, form-of}
 use Rattle.meaning.specs.Types as Types
 use Rattle.meaning.specs.Typing.{IsType, int-is, bool-is, name-is, array-is, struct-is, AreFields, no-fields, a-field, Designator, name-designates, element-designates, field-designates, Has, first-field, later-field, HasType, a-number, a-truth, an-assignment, an-operation, a-prefix, an-element, a-selection}
 use Rattle.meaning.specs.Typing as Typing
 use Rattle.meaning.proofs.Nil.{either}
+use Rattle.meaning.proofs.Parts.{IfFormed, after-form, at-place}
 
 -- Types.
 
@@ -68,21 +69,12 @@ IsPlace (place p) = Unit {0}
 IsPlace (value v) = ⊥
 IsPlace (copies p q n) = ⊥
 
+-- it has the type, and is a designator where its form is a place
+abbrev pub Well : Scope → Expression → Form → Ty → Type 0
+Well Γ e f t = HasType Γ e t × (IsPlace f → Designator e)
+
 abbrev pub FormedAs : Scope → Expression → Formed → Type 0
-FormedAs Γ e (Types.Formed.sound f t) = HasType Γ e t × (IsPlace f → Designator e)
-FormedAs Γ e (Types.Formed.broken n) = Unit {0}
-FormedAs Γ e Types.Formed.unsound = Unit {0}
-
-on-form : (Q : Formed → Type 0) (Γ : Scope) (e : Expression) (x : Formed) (k : Form → Ty → Formed) → Q Types.Formed.unsound → FormedAs Γ e x →
-    ((f : Form) (t : Ty) → HasType Γ e t → (IsPlace f → Designator e) → Q (k f t)) → Q (when-form x k)
-on-form Q Γ e (Types.Formed.sound f t) k u h g = g f t (h .0) (h .1)
-on-form Q Γ e (Types.Formed.broken n) k u h g = u
-on-form Q Γ e Types.Formed.unsound k u h g = u
-
-at-place : (Q : Formed → Type 0) (f : Form) (k : Place → Formed) → Q (Types.Formed.broken 12) → ((p : Place) → IsPlace f → Q (k p)) → Q (on-place f k)
-at-place Q (place p) k u g = g p tt
-at-place Q (value v) k u g = u
-at-place Q (copies p q n) k u g = u
+FormedAs Γ e = IfFormed (Well Γ e)
 
 fits-int : (t : Ty) → T (fits int t) → t ≡ int
 fits-int int h = refl
@@ -108,7 +100,7 @@ element-formed : (Γ : Scope) (at : ℕ) (d e : Expression) (t : Ty) (f : Form) 
 element-formed Γ at d e int f v b h p i = tt
 element-formed Γ at d e bool f v b h p i = tt
 element-formed Γ at d e (array t n) f v b h p i =
-    either (FormedAs Γ (Tree.index at d e)) b _ _ (λ ok. at-place (FormedAs Γ (Tree.index at d e)) f _ tt (λ q w. (an-element h (i ok) (p w), λ _. element-designates (p w)))) tt
+    either (FormedAs Γ (Tree.index at d e)) b _ _ (λ ok. at-place (λ g. IsPlace g → Designator d) (FormedAs Γ (Tree.index at d e)) f _ tt p (λ q w. (an-element h (i ok) (w tt), λ _. element-designates (w tt)))) tt
 element-formed Γ at d e (struct ms) f v b h p i = tt
 
 selected-formed : (Γ : Scope) (at : ℕ) (d : Expression) (x : Name) (f : Form) → (IsPlace f → Designator d) → (ms : Members) (k : ℕ) →
@@ -119,7 +111,7 @@ selected-formed Γ at d x f p (member y t ms) k h =
   where
     go : (b : Bool) → same-name x y ≡ b → (same-name x y ≡ false → FormedAs Γ (Tree.select at d x) (selected ms x f (k + size t))) →
         FormedAs Γ (Tree.select at d x) (cond b (on-place f (λ q. Types.Formed.sound (place (Rule.field q k)) t)) (selected ms x f (k + size t)))
-    go true e r = at-place (FormedAs Γ (Tree.select at d x)) f _ tt (λ q w. (h t (first-field e) (p w), λ _. field-designates (p w)))
+    go true e r = at-place (λ g. IsPlace g → Designator d) (FormedAs Γ (Tree.select at d x)) f _ tt p (λ q w. (h t (first-field e) (w tt), λ _. field-designates (w tt)))
     go false e r = r e
 
 field-formed : (Γ : Scope) (at : ℕ) (d : Expression) (x : Name) (t : Ty) (f : Form) → HasType Γ d t → (IsPlace f → Designator d) → FormedAs Γ (Tree.select at d x) (field-of t x f)
@@ -134,20 +126,20 @@ form-typed (Tree.truth at b) Γ = (a-truth, λ w. absurd w)
 form-typed (Tree.name at x) Γ = name-formed Γ at x (number-of x Γ) (meaning-of x Γ) refl
 form-typed (Tree.assign at d e) Γ =
     let Q : Formed → Type 0 = FormedAs Γ (Tree.assign at d e) in
-    on-form Q Γ d (form-of d Γ) _ tt (form-typed d Γ) (λ f t h p. on-form Q Γ e (form-of e Γ) _ tt (form-typed e Γ) (λ g u i q.
-    either Q (fits t u) _ _ (λ ok. at-place Q f _ tt (λ _ w.
-    either Q (scalar t) _ _ (λ s. (an-assignment h i ok (p w) (inl s), λ z. absurd z)) (at-place Q g _ tt (λ _ v. (an-assignment h i ok (p w) (inr (q v)), λ z. absurd z))))) tt))
+    after-form (Well Γ d) Q (form-of d Γ) _ tt (form-typed d Γ) (λ f t (h, p). after-form (Well Γ e) Q (form-of e Γ) _ tt (form-typed e Γ) (λ g u (i, q).
+    either Q (fits t u) _ _ (λ ok. at-place (λ g. IsPlace g → Designator d) Q f _ tt p (λ _ w.
+    either Q (scalar t) _ _ (λ s. (an-assignment h i ok (w tt) (inl s), λ z. absurd z)) (at-place (λ g. IsPlace g → Designator e) Q g _ tt q (λ _ v. (an-assignment h i ok (w tt) (inr (v tt)), λ z. absurd z))))) tt))
 form-typed (Tree.binary at o d e) Γ =
     let Q : Formed → Type 0 = FormedAs Γ (Tree.binary at o d e) in
-    on-form Q Γ d (form-of d Γ) _ tt (form-typed d Γ) (λ f t h p. on-form Q Γ e (form-of e Γ) _ tt (form-typed e Γ) (λ g u i q.
+    after-form (Well Γ d) Q (form-of d Γ) _ tt (form-typed d Γ) (λ f t (h, p). after-form (Well Γ e) Q (form-of e Γ) _ tt (form-typed e Γ) (λ g u (i, q).
     either Q (allowed (signature o) t u) _ _ (λ ok. (an-operation h i ok, λ z. absurd z)) tt))
 form-typed (Tree.unary at o e) Γ =
     let Q : Formed → Type 0 = FormedAs Γ (Tree.unary at o e) in
-    on-form Q Γ e (form-of e Γ) _ tt (form-typed e Γ) (λ f t h p. either Q (fits (operand o) t) _ _ (λ ok. (a-prefix h ok, λ z. absurd z)) tt)
+    after-form (Well Γ e) Q (form-of e Γ) _ tt (form-typed e Γ) (λ f t (h, p). either Q (fits (operand o) t) _ _ (λ ok. (a-prefix h ok, λ z. absurd z)) tt)
 form-typed (Tree.index at d e) Γ =
     let Q : Formed → Type 0 = FormedAs Γ (Tree.index at d e) in
-    on-form Q Γ d (form-of d Γ) _ tt (form-typed d Γ) (λ f t h p. on-form Q Γ e (form-of e Γ) _ tt (form-typed e Γ) (λ g u i q.
+    after-form (Well Γ d) Q (form-of d Γ) _ tt (form-typed d Γ) (λ f t (h, p). after-form (Well Γ e) Q (form-of e Γ) _ tt (form-typed e Γ) (λ g u (i, q).
     element-formed Γ at d e t f (read-of g) (fits int u) h p (λ ok. subst (λ (x : Ty). HasType Γ e x) (fits-int u ok) i)))
 form-typed (Tree.select at d x) Γ =
     let Q : Formed → Type 0 = FormedAs Γ (Tree.select at d x) in
-    on-form Q Γ d (form-of d Γ) _ tt (form-typed d Γ) (λ f t h p. field-formed Γ at d x t f h p)
+    after-form (Well Γ d) Q (form-of d Γ) _ tt (form-typed d Γ) (λ f t (h, p). field-formed Γ at d x t f h p)
