@@ -2,3 +2,4 @@ pub mod Shown
 pub mod Steps
 pub mod DepthViews
 pub mod Ready
+pub mod Held
