@@ -13,7 +13,8 @@ use Rattle.meaning.specs.Code.{Entry, Scope, var, entry-of, unary, binary, pla
 use Rattle.meaning.specs.Code as Code
 use Rattle.meaning.specs.Sound.{Slot, holds, takes, slots, formal-slots, FitsAction, FitsActions, FitsDeclarations, FitsBlock, Sound}
 use Rattle.meaning.specs.Small.{SmallPlace, SmallValue, SmallArgument, SmallArguments, SmallAction, SmallActions, SmallDeclarations, SmallBlock, Small}
-use Rattle.meaning.specs.Lawful.{is-int, Lawful, LawfulCode, Accepted-is-lawful}
+use Rattle.meaning.specs.Lawful.{is-int, Accepted-is-lawful}
+use Rattle.meaning.proofs.Ranges.{Lawful, LawfulCode, lawful-all}
 use Rattle.meaning.proofs.Lengths.{joined, headed, block-long, procs-block-long}
 use Rattle.meaning.proofs.Accepted.{accepted-sound, accepted-small}
 
@@ -219,4 +220,4 @@ program-lawful b sound small few =
     )
 
 pub accepted-lawful : Accepted-is-lawful
-accepted-lawful t b w e few = program-lawful b (accepted-sound t b e) (accepted-small is-int tt tt t b w e) few
+accepted-lawful t b w e few = lawful-all (program b) (program-lawful b (accepted-sound t b e) (accepted-small is-int tt tt t b w e) few)

@@ -2,7 +2,9 @@
 use mathlib.Core.Path.{_≡_, sym, ap, _∙_, refl}
 use mathlib.Core.List.{List, [], _∷_, _++_, append-assoc}
 use Rattle.std.proofs.shelf.Lists.{append-nil}
-use Rattle.machine.specs.Host.{Host, Item, Event}
+use Rattle.machine.specs.Host.{Host}
+use Rattle.machine.specs.declared.host.Item.{Item}
+use Rattle.machine.specs.declared.host.Event.{Event}
 use Rattle.meaning.specs.Laws.{Begins, Ends, Onward}
 
 begins-refl : {A : Type 0} (xs : List A) → Begins xs xs

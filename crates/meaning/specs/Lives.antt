@@ -13,6 +13,7 @@ use Rattle.machine.specs.declared.instruction.Instruction.{Instruction}
 use Rattle.tiny.specs.Tree.{BlockTree}
 use Rattle.machine.specs.Host.{Host}
 use Rattle.machine.specs.Machine.{Standing, Run, going, finished, failed, run, opened}
+use Rattle.machine.specs.Shelves.{total}
 use Rattle.meaning.specs.Rule.{Block}
 use Rattle.meaning.specs.Meaning.{meaning}
 use Rattle.meaning.specs.Code.{program}
@@ -30,10 +31,6 @@ pub record Shelf : Type 0 where
   pub code : List Instruction
   pub capacity : ℕ
   pub cost : Instruction → ℕ
-
-abbrev pub cost-of : (Instruction → ℕ) → List Instruction → ℕ
-cost-of cost [] = 0
-cost-of cost (i ∷ is) = cost i + cost-of cost is
 
 -- what a run is tied to from its opening on: the code, its source if it has one, and memory and host as they were given
 pub record Tie : Type 0 where
@@ -79,7 +76,7 @@ module _ (rule-of : Source → Option Block) where
   pub record Loads (s : Source) (before after : Shelf) : Type 0 where
     pub rule : Block
     pub accepted : rule-of s ≡ Some rule
-    pub fits : cost-of (before .cost) (program rule) ≤ before .capacity
+    pub fits : total (before .cost) (program rule) ≤ before .capacity
     pub code : after .code ≡ program rule
     pub capacity : after .capacity ≡ before .capacity
     pub cost : after .cost ≡ before .cost
