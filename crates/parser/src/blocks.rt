@@ -35,16 +35,18 @@ pub fn block(cursor: &mut Cursor, nodes: &mut Table<Node>) -> Result<usize, Pars
 fn instructs(cursor: &Cursor) -> bool
     ensures { λ r. ⌜ r ≡ stands instructing (ahead (now (cursor .entry))) ⌝ }
 {
-    cursor.stands(&[
-        Kind::Brace,
-        Kind::At,
-        Kind::IfWord,
-        Kind::WhileWord,
-        Kind::ReadWord,
-        Kind::WriteWord,
-        Kind::NlWord,
-        Kind::CallWord,
-    ])
+    cursor.stands(
+        &[
+            Kind::Brace,
+            Kind::At,
+            Kind::IfWord,
+            Kind::WhileWord,
+            Kind::ReadWord,
+            Kind::WriteWord,
+            Kind::NlWord,
+            Kind::CallWord,
+        ],
+    )
 }
 
 // Instructions, declarations that `&&` ends, or both.
@@ -90,7 +92,10 @@ fn declaration(cursor: &mut Cursor, nodes: &mut Table<Node>) -> Result<usize, Pa
     if let Some(token) = cursor.take(&[Kind::ProcWord]) {
         let title = cursor.expect(&[Kind::Name])?;
         let formals = formal_list(cursor, nodes)?;
-        let left = nodes.push(Node::Under { token: title, part: formals });
+        let left = nodes.push(Node::Under {
+            token: title,
+            part: formals,
+        });
         let right = block(cursor, nodes)?;
         return Ok(nodes.push(Node::Join { token, left, right }));
     }
@@ -130,12 +135,20 @@ fn statement(cursor: &mut Cursor, nodes: &mut Table<Node>) -> Result<usize, Pars
     if let Some(token) = cursor.take(&[Kind::IfWord]) {
         let condition = assignment(cursor, nodes)?;
         let chosen = branches(cursor, nodes)?;
-        return Ok(nodes.push(Node::Join { token, left: condition, right: chosen }));
+        return Ok(nodes.push(Node::Join {
+            token,
+            left: condition,
+            right: chosen,
+        }));
     }
     if let Some(token) = cursor.take(&[Kind::WhileWord]) {
         let test = assignment(cursor, nodes)?;
         let body = block(cursor, nodes)?;
-        return Ok(nodes.push(Node::Join { token, left: test, right: body }));
+        return Ok(nodes.push(Node::Join {
+            token,
+            left: test,
+            right: body,
+        }));
     }
     block(cursor, nodes)
 }

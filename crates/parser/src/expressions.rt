@@ -29,14 +29,16 @@ fn relations(cursor: &mut Cursor, nodes: &mut Table<Node>) -> Result<usize, Pars
     ensures { λ r. ⌜ Reads (expect Sort.E1 ∷ []) (now (cursor .entry)) (now (nodes .entry)) r (now (cursor .exit)) (now (nodes .exit)) ⌝ }
 {
     let mut left = sums(cursor, nodes)?;
-    while let Some(token) = cursor.take(&[
-        Kind::Less,
-        Kind::Greater,
-        Kind::LessEqual,
-        Kind::GreaterEqual,
-        Kind::Equal,
-        Kind::NotEqual,
-    ]) {
+    while let Some(token) = cursor.take(
+        &[
+            Kind::Less,
+            Kind::Greater,
+            Kind::LessEqual,
+            Kind::GreaterEqual,
+            Kind::Equal,
+            Kind::NotEqual,
+        ],
+    ) {
         let right = sums(cursor, nodes)?;
         left = nodes.push(Node::Join { token, left, right });
     }
@@ -124,7 +126,11 @@ fn postfix(cursor: &mut Cursor, nodes: &mut Table<Node>) -> Result<usize, ParseF
 }
 
 // What stands behind `.`, a name, or behind `[`, an expression and `]`.
-fn selector(cursor: &mut Cursor, nodes: &mut Table<Node>, operator: Kind) -> Result<usize, ParseFault>
+fn selector(
+    cursor: &mut Cursor,
+    nodes: &mut Table<Node>,
+    operator: Kind,
+) -> Result<usize, ParseFault>
     requires { ⌜ Room (now cursor) (now nodes) ⌝ }
     ensures { λ r. ⌜ Reads (selecting operator) (now (cursor .entry)) (now (nodes .entry)) r (now (cursor .exit)) (now (nodes .exit)) ⌝ }
 {
@@ -142,12 +148,9 @@ fn basic(cursor: &mut Cursor, nodes: &mut Table<Node>) -> Result<usize, ParseFau
     requires { ⌜ Room (now cursor) (now nodes) ⌝ }
     ensures { λ r. ⌜ Reads (expect Sort.basic ∷ []) (now (cursor .entry)) (now (nodes .entry)) r (now (cursor .exit)) (now (nodes .exit)) ⌝ }
 {
-    if let Some(token) = cursor.take(&[
-        Kind::Name,
-        Kind::Literal,
-        Kind::TrueWord,
-        Kind::FalseWord,
-    ]) {
+    if let Some(token) = cursor.take(
+        &[Kind::Name, Kind::Literal, Kind::TrueWord, Kind::FalseWord],
+    ) {
         return Ok(nodes.push(Node::Leaf { token }));
     }
     cursor.expect(&[Kind::Open])?;

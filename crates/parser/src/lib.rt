@@ -1,9 +1,8 @@
 // From a source to a table that shows its tree.
-pub mod faults;
-pub mod parse;
-
 mod arguments;
 mod blocks;
 mod cursor;
 mod expressions;
+pub mod faults;
+pub mod parse;
 mod types;
