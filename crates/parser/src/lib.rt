@@ -1,8 +1,8 @@
 // From a source to a table that shows its tree.
-pub mod arguments;
-pub mod blocks;
-pub mod cursor;
-pub mod expressions;
+mod arguments;
+mod blocks;
+mod cursor;
+mod expressions;
 pub mod faults;
 pub mod parse;
-pub mod types;
+mod types;
