@@ -2,4 +2,5 @@
 pub mod Items
 pub mod Literals
 pub mod Renders
+pub mod Spellings
 pub mod Words

@@ -1,4 +1,6 @@
 -- The parts of a text between blanks, and the item that each is.
+use mathlib.Core.Path.{_≡_}
+use mathlib.Core.Logic.{_⊎_}
 use mathlib.Core.Bool.{Bool, true, false, not, cond, _&&_, _||_}
 use mathlib.Core.List.{List, [], _∷_, map}
 use Prim.Native.Nat.{ℕ}
@@ -6,7 +8,7 @@ use lib.Dec.{eqb}
 use lib.IntN.{ℤ}
 use Rattle.std.specs.declared.option.Option.{Option}
 use Rattle.std.specs.declared.option.Option.the-variants.{Some, None}
-use Rattle.tiny.specs.Spelling.{digit, value, ranged}
+use Rattle.tiny.specs.Spelling.{digit, value, ranged, Numeral}
 use Rattle.machine.specs.declared.host.Item.{Item}
 use Rattle.machine.specs.declared.host.Item.the-variants.{Number, Unreadable}
 
@@ -51,6 +53,11 @@ numeral (d ∷ e ∷ ds) = not (eqb d 48) && allDigits (d ∷ e ∷ ds)
 abbrev pub literal : List ℕ → Bool
 literal [] = false
 literal (b ∷ bs) = cond (eqb b 45 || eqb b 43) (numeral bs) (numeral (b ∷ bs))
+
+-- the text is a literal, as a source spells it
+pub data Spelled : List ℕ → Type 0 where
+  plain : {bs : List ℕ} → Numeral bs → Spelled bs
+  signed : {b : ℕ} {bs : List ℕ} → (b ≡ 43) ⊎ (b ≡ 45) → Numeral bs → Spelled (b ∷ bs)
 
 abbrev pub numbered : Option ℤ → Item
 numbered None = Unreadable

@@ -2,11 +2,12 @@
 use machine::host::Item;
 use tiny::text::literal;
 ghost use mathlib.Core.Path.{_≡_};
+ghost use mathlib.Core.Bool.{true};
 ghost use Prim.Native.Nat.{_+_, _≤_};
 ghost use lib.ListN.{length, drop};
 ghost use Rattle.std.specs.shelf.Lists.{leading};
 ghost use Rattle.tiny.specs.Spelling.{digit};
-ghost use Rattle.hosts.specs.Parts.{allDigits, blank, itemOf, literal, numeral, ofKind};
+ghost use Rattle.hosts.specs.Parts.{Spelled, allDigits, blank, itemOf, literal, numeral, ofKind};
 
 // Tab, line feed, carriage return and space part the input.
 fn is_blank(byte: u8) -> bool
@@ -55,9 +56,10 @@ fn is_numeral(bytes: &[u8]) -> bool
     }
 }
 
-// A numeral, with or without a sign before it.
+// A numeral, with or without a sign before it: a literal, as a source spells it.
 fn is_literal(part: &[u8]) -> bool
-    ensures { λ r. ⌜ r ≡ literal (now (part .entry)) ⌝ }
+    ensures test { λ r. ⌜ r ≡ literal (now (part .entry)) ⌝ }
+    ensures tells { λ r. ⌜ (r ≡ true → Spelled (now (part .entry))) × (Spelled (now (part .entry)) → r ≡ true) ⌝ }
 {
     match part {
         [b'-', digits @ ..] => is_numeral(digits),
