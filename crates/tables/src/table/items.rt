@@ -51,6 +51,13 @@ impl<'a, T: Copy> Table<'a, T> {
         Some(cell(self.cells, at))
     }
 
+    // All items, in order.
+    pub fn as_slice(&self) -> &[T]
+        ensures { λ r. ⌜ now r ≡ items (now (self .entry)) ⌝ }
+    {
+        &self.cells[0..self.used]
+    }
+
     // Lets go all items but the first `len`.
     pub fn truncate(&mut self, len: usize)
         ensures items { λ _. ⌜ items (now (self .exit)) ≡ take len (items (now (self .entry))) ⌝ }
