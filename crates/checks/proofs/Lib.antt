@@ -3,3 +3,5 @@ pub mod Steps
 pub mod DepthViews
 pub mod Ready
 pub mod Held
+pub mod NamesViews
+pub mod Scopes

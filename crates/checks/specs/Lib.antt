@@ -1,4 +1,5 @@
 pub mod Breaks
+pub mod Declares
 pub mod Depth
 pub mod Names
 pub mod Numbers

@@ -1,7 +1,7 @@
-// Why a tree is refused by its depth.
+// Why a tree is refused by its depth or by its names.
 use tiny::placed::Placed;
 ghost use mathlib.Core.Path.{_≡_};
-ghost use Rattle.checks.specs.Numbers.{depth-number};
+ghost use Rattle.checks.specs.Numbers.{depth-number, name-number};
 
 #[derive(Clone, Copy, PartialEq, Eq, Debug)]
 pub enum DepthCause {
@@ -21,6 +21,28 @@ impl DepthCause {
         match self {
             DepthCause::Node => 7,
             DepthCause::Procedure => 7,
+        }
+    }
+}
+
+#[derive(Clone, Copy, PartialEq, Eq, Debug)]
+pub enum NameCause {
+    // A name that is used is not declared.
+    Undeclared,
+    // Its scope has the name already, or its struct the field.
+    Twice,
+}
+
+pub type NameFault = Placed<NameCause>;
+
+impl NameCause {
+    // The refusal's number in the list of refusals.
+    pub fn number(self) -> u8
+        ensures { λ r. ⌜ r ≡ name-number self ⌝ }
+    {
+        match self {
+            NameCause::Undeclared => 8,
+            NameCause::Twice => 9,
         }
     }
 }

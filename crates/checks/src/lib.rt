@@ -1,4 +1,5 @@
 // What is checked of a tree in its table, before its kinds and types: depth, and names.
+pub mod binder;
 pub mod depth;
 pub mod faults;
 pub mod names;

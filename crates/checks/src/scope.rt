@@ -5,7 +5,7 @@ ghost use mathlib.Core.Path.{_≡_};
 #[derive(Clone, Copy)]
 pub struct Scope {
     // How many names are open.
-    pub open: usize,
+    pub top: usize,
     // Where the names of the innermost scope begin.
     pub start: usize,
     // Where the next variable of the frame goes.
