@@ -5,3 +5,4 @@ pub mod Ready
 pub mod Held
 pub mod NamesViews
 pub mod Scopes
+pub mod Room

@@ -15,6 +15,7 @@ use Rattle.tiny.specs.declared.placed.Placed.{Placed}
 use Rattle.tiny.specs.declared.tokens.Lexeme.{Lexeme}
 use Rattle.tiny.specs.Scan.{token-in}
 use Rattle.tiny.specs.Tree.{Name}
+use Rattle.tables.specs.declared.nodes.Node.{Node}
 use Rattle.tables.specs.declared.table.Table.{Table}
 use Rattle.tables.specs.Items.{items, capacity, item-at}
 use Rattle.meaning.specs.Types.{same-name}
@@ -25,7 +26,7 @@ use Rattle.checks.specs.Breaks.{Tells}
 use Rattle.checks.specs.declared.names.NameRecord.{NameRecord}
 use Rattle.checks.specs.declared.scope.Scope.{Scope}
 use Rattle.checks.specs.Names.{held, text-of}
-use Rattle.checks.specs.Declares.{name-break, Inner, Declares, Keeps, Grown, Named, When-ok}
+use Rattle.checks.specs.Declares.{name-break, Inner, Declares, Keeps, Grown, Named, Proceeded, When-ok}
 use Rattle.checks.proofs.Held.{held-some}
 
 -- a name that is known is no break, another is one
@@ -186,3 +187,26 @@ grown-none h = record { keeps = keeps-all h; start = refl; more = omega arith; w
 pub inner-none : (source : List ℕ) (rs : List NameRecord) (s : Scope) → s .top ≡ s .start → Inner source rs s []
 inner-none source rs s e =
     record { holds = λ x. let z : s .top - s .start ≡ 0 = omega arith in ap (λ k. held source rs (s .start) k x) (sym z) }
+
+-- a new scope inside
+pub enter : {source : List ℕ} {rs : List NameRecord} {s : Scope} {Δ : Open} (u : Scope) → u .top ≡ s .top → u .start ≡ s .top →
+    Declares source rs s Δ → Declares source rs u ([] ∷ Δ)
+enter {source = source} {rs = rs} u p q h =
+    record { knows = λ x. h .knows x ∙ ap (λ k. held source rs 0 k x) (sym p); inner = inner-none source rs u (p ∙ sym q) }
+
+-- a scope under another name
+pub declares-at : {source : List ℕ} {rs : List NameRecord} {s u : Scope} {Δ : Open} → u ≡ s → Declares source rs s Δ → Declares source rs u Δ
+declares-at {source = source} {rs = rs} {Δ = Δ} e h = subst (λ z. Declares source rs z Δ) (sym e) h
+
+pub keeps-at : {n m : ℕ} {a b : Table NameRecord} → m ≡ n → Keeps m a b → Keeps n a b
+keeps-at {a = a} {b = b} e h = subst (λ z. Keeps z a b) e h
+
+pub proceeded-at : {source : List ℕ} {ns : List Node} {m : ℕ} {a b : Table NameRecord} {s u : Scope} (v : Scope) → u ≡ v → Proceeded source ns m a b s v → Proceeded source ns m a b s u
+proceeded-at {source} {ns} {m} {a} {b} {s} v e h = subst (λ z. Proceeded source ns m a b s z) (sym e) h
+
+-- a name under another spelling of its token
+pub declares-text : {source : List ℕ} {rs : List NameRecord} {s : Scope} (Δ : Open) {x y : Name} → x ≡ y → Declares source rs s (added x Δ) → Declares source rs s (added y Δ)
+declares-text {source = source} {rs = rs} {s = s} Δ e h = subst (λ z. Declares source rs s (added z Δ)) e h
+
+pub grown-then : {a b c : Table NameRecord} {s u : Scope} → Grown a b s u → Keeps (u .top) b c → Grown a c s u
+grown-then h k = record { keeps = keeps-both (h .keeps) k (h .more); start = h .start; more = h .more; within = k .within }

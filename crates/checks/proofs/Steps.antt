@@ -9,6 +9,7 @@ use Rattle.std.specs.declared.result.Result.{Result}
 use Rattle.std.specs.declared.result.Result.the-variants.{Ok, Err}
 use Rattle.std.specs.Results.{ErrBy}
 use Rattle.std.proofs.shelf.Results.{err-from-errBy}
+use Rattle.tiny.specs.Token.{Token}
 use Rattle.meaning.specs.Stages.{Break}
 use Rattle.checks.specs.Breaks.{Tells, first-break, named-break}
 
@@ -73,3 +74,7 @@ by {f = f} {r = r} {A = A} {p = p} e k = subst (λ x. Tells f r x) (sym (e .is))
 -- a place under another name
 pub at-place : {X F : Type 0} {f : F → Break} {r : Result X F} (g : ℕ → List Break) {p q : ℕ} → p ≡ q → Tells f r (g p) → Tells f r (g q)
 at-place {f = f} {r = r} g e k = subst (λ x. Tells f r (g x)) e k
+
+-- a token under another name
+pub at-token : {X F : Type 0} {f : F → Break} {r : Result X F} (g : Token → List Break) {x y : Token} → x ≡ y → Tells f r (g x) → Tells f r (g y)
+at-token {f = f} {r = r} g e k = subst (λ z. Tells f r (g z)) e k

@@ -1,6 +1,7 @@
 -- When a table of names with a scope record stands for the open scopes, and what a pass over names says.
 use mathlib.Core.Path.{_≡_}
-use mathlib.Core.List.{List, [], _∷_}
+use mathlib.Core.List.{List, [], _∷_, _++_}
+use mathlib.Core.Bool.{cond}
 use Prim.Native.Nat.{ℕ, _+_, _-_, _<_, _≤_}
 use lib.ListN.{length}
 use Rattle.std.specs.declared.option.Option.the-variants.{Some}
@@ -17,7 +18,9 @@ use Rattle.tables.specs.declared.nodes.Node.{Node}
 use Rattle.tables.specs.declared.table.Table.{Table}
 use Rattle.tables.specs.Items.{items, capacity, item-at}
 use Rattle.tables.specs.Shows.{Shows}
-use Rattle.meaning.specs.Stages.{Break, Open, has, known, innermost}
+use Rattle.tiny.specs.declared.tokens.Kind.the-variants.{Name as NameKind, TypeWord, ProcWord, Semicolon, DoubleAmpersand}
+use Rattle.tiny.specs.Token.{is}
+use Rattle.meaning.specs.Stages.{Break, Open, has, known, innermost, added, twice, names-formals, open-formals, names-block}
 use Rattle.checks.specs.declared.faults.NameCause.{NameCause}
 use Rattle.checks.specs.declared.names.NameRecord.{NameRecord}
 use Rattle.checks.specs.declared.scope.Scope.{Scope}
@@ -89,3 +92,37 @@ pub record Opened (source : List ℕ) (ns : List Node) (i : ℕ) (a b : Table Na
   pub grown : Grown a b s u
   pub declares : (t : Shape.Tree) (Δ : Open) → Shows source ns i t → Declares source (items a) s Δ → Declares source (items b) u (f t Δ)
   pub few : (t : Shape.Tree) → Shows source ns i t → u .top ≤ s .top + n t
+
+-- how many names the declarations of what stands in a block open
+abbrev pub new-names : Shape.Tree → ℕ
+new-names (Shape.leaf t) = 0
+new-names (Shape.under t e) = cond (is (t .kind) DoubleAmpersand) (new-names e) (cond (is (t .kind) TypeWord) 1 (cond (is (t .kind) NameKind) 1 0))
+new-names (Shape.join t l r) =
+    cond (is (t .kind) DoubleAmpersand) (new-names l) (cond (is (t .kind) Semicolon) (new-names l + new-names r) (cond (is (t .kind) ProcWord) 1 0))
+
+-- the record shows a tree whose declarations are open already, and there is room for its other names
+pub record Fits-behind (source : List ℕ) (ns : List Node) (i used room : ℕ) : Type 0 where
+  pub tree : Shape.Tree
+  pub shown : Shows source ns i tree
+  pub fits : used + size tree ≤ room + new-names tree
+
+-- two records show a procedure's name with its formals, and its block
+pub record Fits-both (source : List ℕ) (ns : List Node) (m n used room : ℕ) : Type 0 where
+  pub head : Shape.Tree
+  pub body : Shape.Tree
+  pub head-shown : Shows source ns m head
+  pub body-shown : Shows source ns n body
+  pub fits : used + (1 + (size head + size body)) ≤ room
+
+-- the names of a procedure: its own, its formals, its block
+abbrev pub names-procedure : Shape.Tree → Shape.Tree → Open → List Break
+names-procedure l r Δ =
+    twice (innermost Δ) (Shape.token-of l .place) (Shape.token-of l .text)
+    ++ (names-formals (View.formals (View.part-of l) Tree.no-formal) ([] ∷ added (Shape.token-of l .text) Δ)
+    ++ names-block (View.block r) (open-formals (View.formals (View.part-of l) Tree.no-formal) ([] ∷ added (Shape.token-of l .text) Δ)))
+
+-- after a procedure, whose name is open
+pub record Proceeded (source : List ℕ) (ns : List Node) (m : ℕ) (a b : Table NameRecord) (s u : Scope) : Type 0 where
+  pub grown : Grown a b s u
+  pub declares : (l : Shape.Tree) (Δ : Open) → Shows source ns m l → Declares source (items a) s Δ → Declares source (items b) u (added (Shape.token-of l .text) Δ)
+  pub next : u .top ≡ s .top + 1

@@ -1,3 +1,4 @@
+pub mod Branches
 pub mod Breaks
 pub mod Declares
 pub mod Depth
