@@ -10,7 +10,7 @@ use tables::nodes::Node;
 use tables::table::Table;
 
 // What the parser answers: a tree, or the refusal's number and place.
-fn answer(source: &[u8], cells: &mut [Node]) -> Answer {
+fn ask(source: &[u8], cells: &mut [Node]) -> Answer {
     let mut nodes = Table::over(cells);
     match parse(source, &mut nodes) {
         Ok(_root) => Answer::Tree,
@@ -47,36 +47,36 @@ fn main(rt: LibcRuntime) -> io::Result<()> {
     let text = fs::read_to_string(&rt, "sources.txt")?;
     let mut cells = vec![in heap; Node::Blank; 2048]?;
     for line in text.as_str().lines() {
-        tell(&rt, answer(line.as_bytes(), cells.as_mut_slice()), line)?;
+        tell(&rt, ask(line.as_bytes(), cells.as_mut_slice()), line)?;
     }
     let parentheses = nested(heap, "{@", "(", 2046)?;
     tell(
         &rt,
-        answer(parentheses.as_bytes(), cells.as_mut_slice()),
+        ask(parentheses.as_bytes(), cells.as_mut_slice()),
         "2046 parentheses",
     )?;
     let braces = nested(heap, "", "{", 2048)?;
     tell(
         &rt,
-        answer(braces.as_bytes(), cells.as_mut_slice()),
+        ask(braces.as_bytes(), cells.as_mut_slice()),
         "2048 braces",
     )?;
     let signs = nested(heap, "{@", "-", 2046)?;
     tell(
         &rt,
-        answer(signs.as_bytes(), cells.as_mut_slice()),
+        ask(signs.as_bytes(), cells.as_mut_slice()),
         "2046 signs",
     )?;
     let brackets = nested(heap, "{@x", "[x", 1022)?;
     tell(
         &rt,
-        answer(brackets.as_bytes(), cells.as_mut_slice()),
+        ask(brackets.as_bytes(), cells.as_mut_slice()),
         "1022 brackets",
     )?;
     let conditions = nested(heap, "{", "if x{", 682)?;
     tell(
         &rt,
-        answer(conditions.as_bytes(), cells.as_mut_slice()),
+        ask(conditions.as_bytes(), cells.as_mut_slice()),
         "682 conditions",
     )
 }

@@ -2,14 +2,16 @@
 use crate::Ended;
 use crate::EndedFromIo;
 use crate::show;
+use checks::faults::DepthCause;
 use parser::faults::ParseFault;
-use parser::parse::parse;
 use reports::words::cause_in_words;
 use std::io;
 use tables::nodes::Node;
 use tables::table::Table;
 use tiny::tokens::Kind;
 use tiny::tokens::Token;
+use trees::faults::TreeFault;
+use trees::read_tree;
 
 // How many records a table has.
 const RECORDS: usize = 2048;
@@ -21,14 +23,20 @@ pub fn draw(rt: &LibcRuntime, source: &[u8]) -> Result<(), Ended> {
         return Err(Ended::Failed);
     };
     let mut nodes = Table::over(cells.as_mut_slice());
-    match parse(source, &mut nodes) {
+    match read_tree(source, &mut nodes) {
         Ok(root) => {
             branch(rt, source, &nodes, root, 0)?;
             println!(rt, "{} records", nodes.len())?;
             Ok(())
         }
         Err(fault) => {
-            refusal(rt, source, fault)?;
+            show::refusal(
+                rt,
+                source,
+                fault.number(),
+                words(source, fault),
+                fault.place(),
+            )?;
             Err(Ended::Refused)
         }
     }
@@ -93,25 +101,21 @@ fn row(rt: &LibcRuntime, source: &[u8], token: Token, depth: usize) -> io::Resul
     println!(rt, "")
 }
 
-fn refusal(rt: &LibcRuntime, source: &[u8], fault: ParseFault) -> io::Result<()> {
+// A refusal in words.
+fn words(source: &[u8], fault: TreeFault) -> &'static str {
     match fault {
-        ParseFault::Scan(fault) => {
-            show::refusal(
-                rt,
-                source,
-                fault.what.number(),
-                cause_in_words(fault.what),
-                fault.place,
-            )
-        }
-        ParseFault::Syntax(fault) => {
-            let words = if fault.place < source.len() {
+        TreeFault::Parse(ParseFault::Scan(fault)) => cause_in_words(fault.what),
+        TreeFault::Parse(ParseFault::Syntax(fault)) => {
+            if fault.place < source.len() {
                 "no rule goes on with this token"
             } else {
                 "the rule is not finished"
-            };
-            show::refusal(rt, source, 6, words, fault.place)
+            }
         }
-        ParseFault::Full => show::refusal(rt, source, 1, "the table for nodes is too small", 0),
+        TreeFault::Parse(ParseFault::Full) => "the table for nodes is too small",
+        TreeFault::Depth(fault) => match fault.what {
+            DepthCause::Node => "this is nested deeper than 96",
+            DepthCause::Procedure => "this procedure is nested deeper than 8",
+        },
     }
 }

@@ -88,7 +88,6 @@ pub scan-short : (source : List ℕ) → length source ≤ 16384 → scan source
 unfolding scan
 scan-short source h = ap (λ (b : Bool). fits b source) (le-ltb 16384 (length source) h)
 
-
 -- what is left of a count after one call of the scanner
 pub take-some : (source : List ℕ) (n : ℕ) (before after : Scanned) (t : Placed Lexeme) → Takes source before (Ok (Some t)) after →
     plus n (counted before) ≡ plus (n + 1) (counted after)

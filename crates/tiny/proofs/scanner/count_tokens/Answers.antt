@@ -29,7 +29,7 @@ pub loop-token-holds : need.loop-token-holds
 loop-token-holds c =
     let s = c .new-scanner .result in
     let from : scan-from 2048 (c .args .source .now) 0 ≡ scan-from (2048 - s .read) (s .source .now) (s .at) =
-        ap₃ (c .new-scanner .ensures .read) (c .new-scanner .ensures .source) (c .new-scanner .ensures .at) in
+    ap₃ (c .new-scanner .ensures .read) (c .new-scanner .ensures .source) (c .new-scanner .ensures .at) in
     (sym (c .new-scanner .ensures .read), c .new-scanner .ensures .source, plus-none _ ∙ ap (λ x. plus 0 (counted x)) from)
   where
     ap₃ : {r a : ℕ} {x y : List ℕ} → r ≡ 0 → x ≡ y → a ≡ 0 → scan-from 2048 y 0 ≡ scan-from (2048 - r) x a
@@ -40,7 +40,7 @@ pub loop-token-again : need.loop-token-again
 loop-token-again c =
     let is : c .next .result ≡ Ok (Some (c .in-Some .-token)) = cc (c .in-Continue--token .was tt) in
     let read : Counts (c .loop-token .scanner .read) (Ok (Some (c .in-Some .-token))) (c .next .last .self .read) =
-        subst (λ r. Counts (c .loop-token .scanner .read) r (c .next .last .self .read)) is (c .next .ensures .read) in
+    subst (λ r. Counts (c .loop-token .scanner .read) r (c .next .last .self .read)) is (c .next .ensures .read) in
     let s = c .loop-token .scanner in
     let e = c .next .last .self in
     let left = subst (λ r. Takes (s .source .now) (left-of (s .read) (s .source .now) (s .at)) r (left-of (e .read) (e .source .now) (e .at))) is (c .next .ensures .left) in (
