@@ -6,3 +6,4 @@ pub mod Held
 pub mod NamesViews
 pub mod Scopes
 pub mod Room
+pub mod Stages

@@ -89,6 +89,9 @@ in-at now still p q r = record { tree = r .tree; shown = r .shown; fits = omega 
 pub behind-at : {source : List ℕ} {ns : List Node} {i used room : ℕ} (now still : ℕ) → now ≡ used → still ≡ room → Fits-behind source ns i used room → Fits-behind source ns i now still
 behind-at now still p q r = record { tree = r .tree; shown = r .shown; fits = omega (arith, r .fits) }
 
+pub in-more : {source : List ℕ} {ns : List Node} {i used room : ℕ} → Fits-in source ns i used room → Fits-in source ns i used (room + 1)
+in-more r = record { tree = r .tree; shown = r .shown; fits = omega (arith, r .fits) }
+
 -- Blocks
 
 pub block-part : {source : List ℕ} {ns : List Node} {i used room : ℕ} {k : Placed Lexeme} {m : ℕ} →

@@ -210,3 +210,7 @@ declares-text {source = source} {rs = rs} {s = s} Δ e h = subst (λ z. Declares
 
 pub grown-then : {a b c : Table NameRecord} {s u : Scope} → Grown a b s u → Keeps (u .top) b c → Grown a c s u
 grown-then h k = record { keeps = keeps-both (h .keeps) k (h .more); start = h .start; more = h .more; within = k .within }
+
+-- no scope is open outside the outermost block
+pub outermost : (source : List ℕ) (rs : List NameRecord) (s : Scope) → s .top ≡ 0 → s .start ≡ 0 → Declares source rs s []
+outermost source rs s p q = record { knows = λ x. ap (λ k. held source rs 0 k x) (sym p); inner = inner-none source rs s (p ∙ sym q) }

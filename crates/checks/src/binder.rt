@@ -1,5 +1,5 @@
 // Names: the first in the order of the source that is not declared, or that its scope has already.
-ghost use mathlib.Core.List.{List};
+ghost use mathlib.Core.List.{List, []};
 ghost use mathlib.Core.Path.{_≡_};
 ghost use Prim.Native.Nat.{_+_, _<_, _≤_, _^_};
 ghost use lib.ListN.{length};
@@ -474,4 +474,25 @@ fn block(
             right: _,
         } => Ok(()),
     }
+}
+
+// The first name that is not declared or that its scope has already, in the order of the source, or
+// none: `root` is the outermost block of a tree in the table of nodes, as the parser leaves it, and
+// the table of names has a record for each of its nodes.
+pub fn check_names(
+    source: &[u8],
+    nodes: &[Node],
+    table: &mut Table<NameRecord>,
+    root: usize,
+) -> Result<(), NameFault>
+    requires { ⌜ Fits-in (now source) (now nodes) root 0 (capacity (now table)) ⌝ }
+    ensures { λ r. ⌜ ((t : Tree) → Shows (now (source .entry)) (now (nodes .entry)) root t → Tells name-break r (names-block (View.block t) [])) ⌝ }
+{
+    let mut scope = Scope {
+        top: 0,
+        start: 0,
+        offset: 0,
+        level: 0,
+    };
+    block(source, nodes, table, &mut scope, root)
 }

@@ -1,6 +1,7 @@
 // Why a tree is refused by its depth or by its names.
 use tiny::placed::Placed;
 ghost use mathlib.Core.Path.{_≡_};
+ghost use Rattle.checks.specs.declared.faults.CheckFault.the-variants.{Depth, Names};
 ghost use Rattle.checks.specs.Numbers.{depth-number, name-number};
 
 #[derive(Clone, Copy, PartialEq, Eq, Debug)]
@@ -44,5 +45,28 @@ impl NameCause {
             NameCause::Undeclared => 8,
             NameCause::Twice => 9,
         }
+    }
+}
+
+// Why a tree is refused by one of the two.
+#[derive(Clone, Copy)]
+pub enum CheckFault {
+    Depth(DepthFault),
+    Names(NameFault),
+}
+
+pub impl From<Placed<DepthCause>> for CheckFault as CheckFaultFromDepth {
+    ghost converts = { λ x y. y ≡ Depth x };
+
+    fn from(value: Placed<DepthCause>) -> Self {
+        CheckFault::Depth(value)
+    }
+}
+
+pub impl From<Placed<NameCause>> for CheckFault as CheckFaultFromNames {
+    ghost converts = { λ x y. y ≡ Names x };
+
+    fn from(value: Placed<NameCause>) -> Self {
+        CheckFault::Names(value)
     }
 }
