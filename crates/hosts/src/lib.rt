@@ -1,4 +1,6 @@
 // Hosts over lent slices: numbers, and text.
+#![tactic(auto)]
+
 pub mod numbers;
 mod parts;
 mod rendering;

@@ -1,4 +1,6 @@
 // Facts and tests of code, shelves, hosts and runs.
+#![tactic(auto)]
+
 ghost use Rattle.std.specs.Prelude.{◌≡◌};
 ghost use Rattle.shelves.specs.Bytes.{encoded_all};
 ghost use Rattle.machine_tests.specs.Sample.{bytes, sample};

@@ -1,5 +1,6 @@
 // What a rule means, its code, and the theorems that hold the two together. Each function below does nothing: its
 // contract is a theorem, and what it says is in specs/.
+#![tactic(auto)]
 
 ghost use Rattle.meaning.specs.Accepted.{AcceptedIsSound, UnbrokenIsAccepted, AcceptedIsSmall};
 ghost use Rattle.meaning.specs.Agreement.{MeaningAgrees, AcceptedTreesAgree, ChargesAreInstructions};

@@ -1,5 +1,7 @@
 // Parses each line of a file as a rule of its own, then some rules that nest as deep as they can, and
 // prints what becomes of each.
+#![tactic(auto)]
+
 use parser::faults::ParseFault;
 use parser::parse::parse;
 use std::alloc::{AllocError, Global};

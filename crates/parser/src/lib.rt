@@ -1,4 +1,6 @@
 // From a source to a table that shows its tree.
+#![tactic(auto)]
+
 mod arguments;
 mod blocks;
 mod cursor;

@@ -1,4 +1,6 @@
 // The command for people: reads its words and files, calls the libraries, and prints.
+#![tactic(auto)]
+
 mod command;
 mod show;
 mod tokens;

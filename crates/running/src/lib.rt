@@ -1,4 +1,6 @@
 // Runs of the machine: instructions carried out one after the other over any shelf and any host.
+#![tactic(auto)]
+
 pub mod advance;
 mod arithmetic;
 mod calculating;

@@ -1,4 +1,5 @@
 // Tests of the scanner at the edges of its rules.
+#![tactic(auto)]
 
 #[cfg(test)]
 mod tests {

@@ -1,4 +1,6 @@
 // Runs the code of a recursive sum over both shelves and both hosts, and prints what it did.
+#![tactic(auto)]
+
 mod program;
 
 use hosts::numbers::NumberHost;

@@ -1,4 +1,6 @@
 // The grammar of the language, and its law.
+#![tactic(auto)]
+
 ghost use Rattle.syntax.specs.Examples.{WorkedRules};
 ghost use Rattle.syntax.specs.Law.{Accepts, Refuses, Paid};
 

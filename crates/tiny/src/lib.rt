@@ -1,4 +1,6 @@
 // The language Tiny: its tokens, the scanner, and the trees of rules.
+#![tactic(auto)]
+
 ghost use Rattle.tiny.specs.Examples.{WorkedScans};
 ghost use Rattle.tiny.specs.Law.{ScanIs, OneKind};
 

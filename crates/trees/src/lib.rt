@@ -1,4 +1,6 @@
 // From a source to its tree in a table: scanned, parsed, and not too deep.
+#![tactic(auto)]
+
 ghost use Rattle.std.specs.Prelude.{◌≡◌};
 ghost use Rattle.trees.specs.Trees.{ReadTree};
 
