@@ -4,20 +4,20 @@ use Rattle.tiny.specs.Scan.{counted, scan_from, Counts, Takes, left_of}
 use Rattle.tiny.proofs.Counted.{plus, plus_none, scan_long, count_ends, count_breaks, take_some}
 use Rattle.tiny.proofs.scanner.count_tokens.Goals as goal
 
-pub returns-then-source-gt-MOST-BYTES : goal.returns-then-source-gt-MOST-BYTES
-returns-then-source-gt-MOST-BYTES c = sym (ap counted (scan_long _ c.if-source-gt-MOST-BYTES.true))
+pub returns-then-source-gt-MOST_BYTES : goal.returns-then-source-gt-MOST_BYTES
+returns-then-source-gt-MOST_BYTES c = sym (ap counted (scan_long _ c.if-source-gt-MOST_BYTES.true))
 
-pub returns-in-err--token : goal.returns-in-err--token
-returns-in-err--token c =
-    let p = err_from_is_err_and c.from-residual.result c.from-residual.ensures.1 in
-    rw (p.1, p.2) (count_breaks c.args.source.now c.loop-token.count _ c.if-source-gt-MOST-BYTES.false c.loop-token.invariant.2 c.loop-token.scanner.source.now _ _ c.in-err--token.ensures.left)
+pub returns-in_err-_token : goal.returns-in_err-_token
+returns-in_err-_token c =
+    let p = err_from_is_err_and c.from_residual.result c.from_residual.ensures.1 in
+    rw (p.1, p.2) (count_breaks c.args.source.now c.loop-token.count _ c.if-source-gt-MOST_BYTES.false c.loop-token.invariant.2 c.loop-token.scanner.source.now _ _ c.in_err-_token.ensures.left)
 
 pub returns : goal.returns
 returns c =
-    let is : c.next.result ≡ Ok None = cc c.in-ok--token.was in
+    let is : c.next.result ≡ Ok None = cc c.in_ok-_token.was in
     let s = c.loop-token.scanner in
     let e = c.next.new.self in
-    count_ends c.args.source.now c.loop-token.count _ c.if-source-gt-MOST-BYTES.false c.loop-token.invariant.2 c.loop-token.scanner.source.now _
+    count_ends c.args.source.now c.loop-token.count _ c.if-source-gt-MOST_BYTES.false c.loop-token.invariant.2 c.loop-token.scanner.source.now _
     (subst (λ r. Takes s.source.now (left_of s.read s.source.now s.at) r (left_of e.read e.source.now e.at)) is c.next.ensures.left)
 
 pub loop-token-init : goal.loop-token-init
@@ -33,13 +33,13 @@ loop-token-init c =
 
 pub loop-token-preserved : goal.loop-token-preserved
 loop-token-preserved c =
-    let is : c.next.result ≡ Ok (Some c.in-Some.-token) = cc c.in-ok--token.was in
-    let read : Counts c.loop-token.scanner.read (Ok (Some c.in-Some.-token)) c.next.new.self.read =
+    let is : c.next.result ≡ Ok (Some c.in-Some._token) = cc c.in_ok-_token.was in
+    let read : Counts c.loop-token.scanner.read (Ok (Some c.in-Some._token)) c.next.new.self.read =
     subst (λ r. Counts c.loop-token.scanner.read r c.next.new.self.read) is c.next.ensures.read in
     let s = c.loop-token.scanner in
     let e = c.next.new.self in
     let left = subst (λ r. Takes s.source.now (left_of s.read s.source.now s.at) r (left_of e.read e.source.now e.at)) is c.next.ensures.left in (
       omega arith,
       ap (λ r. r.now) c.next.ensures.source ∙ c.loop-token.invariant.1,
-      c.loop-token.invariant.2 ∙ take_some c.loop-token.scanner.source.now c.loop-token.count _ _ c.in-Some.-token left,
+      c.loop-token.invariant.2 ∙ take_some c.loop-token.scanner.source.now c.loop-token.count _ _ c.in-Some._token left,
     )

@@ -5,22 +5,22 @@ use Rattle.tiny.specs.Automaton.{skip, reach}
 use Rattle.tiny.proofs.Lexed.{skip_in, reach_in, lexed_end, lexed_token, lexed_bad}
 use Rattle.tiny.proofs.scanner.lex.Goals as goal
 
-pub overflow-add-place : goal.overflow-add-place
-overflow-add-place c =
+pub overflow_add-place : goal.overflow_add-place
+overflow_add-place c =
     let source = c.args.source.now in
     let skipped = c.ignored.ensures ∙ ap (skip false) (take_rest source c.args.at) in
     let h = skip_in source c.args.at _ c.requires skipped in
     search rules
 
-pub overflow-add-end : goal.overflow-add-end
-overflow-add-end c =
+pub overflow_add-end : goal.overflow_add-end
+overflow_add-end c =
     let source = c.args.source.now in
     let place = c.args.at + c.ignored.result in
     let h = reach_in source place c.munch-len.result (omega arith) (c.munch-len.ensures ∙ ap (reach Start) (take_rest source place)) in
     search rules
 
-pub slice-bounds-text-end : goal.slice-bounds-text-end
-slice-bounds-text-end c =
+pub slice_bounds-text-end : goal.slice_bounds-text-end
+slice_bounds-text-end c =
     let source = c.args.source.now in
     let place = c.args.at + c.ignored.result in
     let h = reach_in source place c.munch-len.result (omega arith) (c.munch-len.ensures ∙ ap (reach Start) (take_rest source place)) in
@@ -35,15 +35,15 @@ returns-then-place-source c =
       token = lexed_end source c.args.at _ (ap (λ (n : ℕ). c.args.at + n) skipped) c.if-place-source.true;
     }
 
-pub returns-in-default : goal.returns-in-default
-returns-in-default c =
+pub returns-in_default : goal.returns-in_default
+returns-in_default c =
     let source = c.args.source.now in
     let place = c.args.at + c.ignored.result in
     let skipped = c.ignored.ensures ∙ ap (skip false) (take_rest source c.args.at) in
     record {
       within = tt;
       token = lexed_bad source c.args.at place (ap (λ (n : ℕ). c.args.at + n) skipped) c.if-place-source.false _ _
-          (c.munch-len.ensures ∙ ap (reach Start) (take_rest source place)) (sym c.kind.ensures ∙ c.in-default.is);
+          (c.munch-len.ensures ∙ ap (reach Start) (take_rest source place)) (sym c.kind.ensures ∙ c.in_default.is);
     }
 
 pub returns : goal.returns

@@ -10,8 +10,8 @@ loop-n-init c = (omega arith, ap (λ (n : ℕ). (n, (reach Start c.args.bytes.no
 pub loop-n-preserved : goal.loop-n-preserved
 loop-n-preserved c = (omega arith, c.loop-n.invariant.1 ∙ one_more _ _ _ _ c.loop-n-test.true (sym c.step.ensures ∙ c.in-Some.is))
 
-pub returns-in-default : goal.returns-in-default
-returns-in-default c = sym (c.loop-n.invariant.1 ∙ no_more _ _ _ c.loop-n-test.true (sym c.step.ensures ∙ c.in-default.is))
+pub returns-in_default : goal.returns-in_default
+returns-in_default c = sym (c.loop-n.invariant.1 ∙ no_more _ _ _ c.loop-n-test.true (sym c.step.ensures ∙ c.in_default.is))
 
 pub returns : goal.returns
 returns c = sym (c.loop-n.invariant.1 ∙ at_end _ _ _ c.loop-n-test.false)

@@ -6,8 +6,8 @@ use Rattle.tiny.proofs.text.magnitude.Goals as goal
 pub loop-i-preserved : goal.loop-i-preserved
 loop-i-preserved c = (
   omega arith,
-  omega (arith, c.one-digit-n.ensures),
-  c.loop-i.invariant.2 ∙ number_more _ _ _ c.loop-i-test.true ∙ ap (λ (n : ℕ). cap (number n (drop (c.loop-i.i + 1) c.args.digits.now))) (sym c.one-digit-n.ensures),
+  omega (arith, c.one_digit-n.ensures),
+  c.loop-i.invariant.2 ∙ number_more _ _ _ c.loop-i-test.true ∙ ap (λ (n : ℕ). cap (number n (drop (c.loop-i.i + 1) c.args.digits.now))) (sym c.one_digit-n.ensures),
 )
 
 pub returns : goal.returns

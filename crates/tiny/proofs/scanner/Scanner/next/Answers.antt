@@ -18,8 +18,8 @@ returns-in-Err c =
       at = refl;
     }
 
-pub returns-in-default : goal.returns-in-default
-returns-in-default c =
+pub returns-in_default : goal.returns-in_default
+returns-in_default c =
     let s = c.args.self.now in
     let is : c.lex.result ≡ Ok None = cc in
     let e = sym c.lex.ensures.token ∙ is in
@@ -32,8 +32,8 @@ returns-in-default c =
       at = refl;
     }
 
-pub returns-then-self-eq-MOST-TOKENS : goal.returns-then-self-eq-MOST-TOKENS
-returns-then-self-eq-MOST-TOKENS c =
+pub returns-then-self-eq-MOST_TOKENS : goal.returns-then-self-eq-MOST_TOKENS
+returns-then-self-eq-MOST_TOKENS c =
     let s = c.args.self.now in
     let is : c.lex.result ≡ Ok (Some c.in-Some.stretch) = cc in
     let e = sym c.lex.ensures.token ∙ is in
@@ -46,17 +46,17 @@ returns-then-self-eq-MOST-TOKENS c =
       at = refl;
     }
 
-pub returns-in-default-value : goal.returns-in-default-value
-returns-in-default-value c =
+pub returns-in_default-value : goal.returns-in_default-value
+returns-in_default-value c =
     let s = c.args.self.now in
     let is : c.lex.result ≡ Ok (Some c.in-Some.stretch) = cc in
     let e = sym c.lex.ensures.token ∙ is in
     let few : s.read ≤ 2048 = s.few in
-    let some : 2048 - s.read ≡ suc (2048 - (s.read + 1)) = omega (arith, c.if-self-eq-MOST-TOKENS.false) in
+    let some : 2048 - s.read ≡ suc (2048 - (s.read + 1)) = omega (arith, c.if-self-eq-MOST_TOKENS.false) in
     record {
       source = refl;
-      token = hands_out (2048 - s.read) s.source.now s.at c.in-Some.stretch e _ some c.in-default-value.is;
-      left = (scan_out (2048 - s.read) s.source.now s.at c.in-Some.stretch e _ some c.in-default-value.is, refl);
+      token = hands_out (2048 - s.read) s.source.now s.at c.in-Some.stretch e _ some c.in_default-value.is;
+      left = (scan_out (2048 - s.read) s.source.now s.at c.in-Some.stretch e _ some c.in_default-value.is, refl);
       read = refl;
       at = refl;
     }
@@ -67,7 +67,7 @@ returns c =
     let is : c.lex.result ≡ Ok (Some c.in-Some.stretch) = cc in
     let e = sym c.lex.ensures.token ∙ is in
     let few : s.read ≤ 2048 = s.few in
-    let some : 2048 - s.read ≡ suc (2048 - (s.read + 1)) = omega (arith, c.if-self-eq-MOST-TOKENS.false) in
+    let some : 2048 - s.read ≡ suc (2048 - (s.read + 1)) = omega (arith, c.if-self-eq-MOST_TOKENS.false) in
     let fits : SFits w32 c.in-Some-value.value = search rules in
     record {
       source = refl;
