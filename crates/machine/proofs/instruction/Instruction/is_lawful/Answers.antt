@@ -5,10 +5,10 @@ use Rattle.machine.specs.Instructions.{lawful}
 use Rattle.machine.proofs.instruction.Instruction.is_lawful.Goals as goal
 
 -- the instructions with no operand
-pub returns-in-default : goal.returns-in-default
-returns-in-default c = grind arith
+pub returns-in_default : goal.returns-in_default
+returns-in_default c = grind arith
 
 pub returns-in-Lit : goal.returns-in-Lit
 returns-in-Lit c =
-    let f : SFits w32 c.in-Lit.-value = search rules in
-    sym (ap lawful c.in-Lit.is ∙ le-leb (mag c.in-Lit.-value) 2147483647 (omega arith))
+    let f : SFits w32 c.in-Lit._value = search rules in
+    sym (ap lawful c.in-Lit.is ∙ le-leb (mag c.in-Lit._value) 2147483647 (omega arith))
