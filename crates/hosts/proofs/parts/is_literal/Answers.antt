@@ -12,17 +12,17 @@ pub returns-in-45 : goal.returns-in-45
 returns-in-45 c =
     let part = c.args.part.now in
     let sign : get_or part 0 0 ≡ 45 = omega arith in
-    let test = c.is-numeral.ensures ∙ ap numeral (take_rest part 1) ∙ sym (literal_minus part sign) in
-    record { test = test; tells = told part c.is-numeral.result test }
+    let test = c.is_numeral.ensures ∙ ap numeral (take_rest part 1) ∙ sym (literal_minus part sign) in
+    record { test = test; tells = told part c.is_numeral.result test }
 
 pub returns-in-43 : goal.returns-in-43
 returns-in-43 c =
     let part = c.args.part.now in
     let sign : get_or part 0 0 ≡ 43 = omega arith in
-    let test = c.is-numeral-in-43.ensures ∙ ap numeral (take_rest part 1) ∙ sym (literal_plus part sign) in
-    record { test = test; tells = told part c.is-numeral-in-43.result test }
+    let test = c.is_numeral-in-43.ensures ∙ ap numeral (take_rest part 1) ∙ sym (literal_plus part sign) in
+    record { test = test; tells = told part c.is_numeral-in-43.result test }
 
-pub returns-in-default : goal.returns-in-default
-returns-in-default c =
-    let test : c.is-numeral-in-default.result ≡ literal c.args.part.now = search rules in
-    record { test = test; tells = told c.args.part.now c.is-numeral-in-default.result test }
+pub returns-in_default : goal.returns-in_default
+returns-in_default c =
+    let test : c.is_numeral-in_default.result ≡ literal c.args.part.now = search rules in
+    record { test = test; tells = told c.args.part.now c.is_numeral-in_default.result test }

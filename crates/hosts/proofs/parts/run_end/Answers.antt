@@ -10,15 +10,15 @@ loop-at-preserved c =
     let d = c.args.bytes.now in
     let at = c.loop-at.at in
     let k = c.args.blanks in
-    let yes = alike k (get_or d at 0) ∙ ap (λ (t : Bool). beq t k) (sym c.is-blank.ensures) ∙ c.if-is-blank-blanks.true in
+    let yes = alike k (get_or d at 0) ∙ ap (λ (t : Bool). beq t k) (sym c.is_blank.ensures) ∙ c.if-is_blank-blanks.true in
     ((omega arith, omega arith), omega (arith, prefix_len-drop_yes (of_kind k) d at 0 (omega arith) yes))
 
-pub returns-else-is-blank-blanks : goal.returns-else-is-blank-blanks
-returns-else-is-blank-blanks c =
+pub returns-else-is_blank-blanks : goal.returns-else-is_blank-blanks
+returns-else-is_blank-blanks c =
     let d = c.args.bytes.now in
     let at = c.loop-at.at in
     let k = c.args.blanks in
-    let no = alike k (get_or d at 0) ∙ ap (λ (t : Bool). beq t k) (sym c.is-blank.ensures) ∙ c.if-is-blank-blanks.false in
+    let no = alike k (get_or d at 0) ∙ ap (λ (t : Bool). beq t k) (sym c.is_blank.ensures) ∙ c.if-is_blank-blanks.false in
     record { value = omega (arith, prefix_len-drop_no (of_kind k) d at 0 (omega arith) no); within = (omega arith, omega arith) }
 
 pub returns-after-loop-at : goal.returns-after-loop-at

@@ -18,14 +18,14 @@ returns-then-n-lt10 t c =
       bytes = paste_byte d at (48 + n) (omega arith) ∙ ap (λ (s : List ℕ). paste d at s (length s)) (sym (decimal_digit n (omega arith)));
     }
 
-pub write-decimal-last-requires : goal.write-decimal-last-requires
-write-decimal-last-requires t c = (omega arith, omega (arith, length_step c.args.n (omega arith) (omega arith)))
+pub write_decimal-last-requires : goal.write_decimal-last-requires
+write_decimal-last-requires t c = (omega arith, omega (arith, length_step c.args.n (omega arith) (omega arith)))
 
 pub bounds-bytes-last : goal.bounds-bytes-last
 bounds-bytes-last t c = omega (arith, length_step c.args.n (omega arith) (omega arith))
 
-pub overflow-add-result-2 : goal.overflow-add-result-2
-overflow-add-result-2 t c = omega (arith, length_step c.args.n (omega arith) (omega arith))
+pub overflow_add-result-2 : goal.overflow_add-result-2
+overflow_add-result-2 t c = omega (arith, length_step c.args.n (omega arith) (omega arith))
 
 pub returns : goal.returns
 returns t c =
@@ -33,10 +33,10 @@ returns t c =
     let at = c.args.at in
     let n = c.args.n in
     let step = length_step n (omega arith) (omega arith) in
-    let wrote = c.write-decimal-last.ensures in
+    let wrote = c.write_decimal-last.ensures in
     record {
       end = omega arith;
       bytes =
-          paste_last d _ (decimal (n / 10)) at c.write-decimal-last.result (48 + n % 10) wrote.bytes wrote.end (omega arith)
+          paste_last d _ (decimal (n / 10)) at c.write_decimal-last.result (48 + n % 10) wrote.bytes wrote.end (omega arith)
           ∙ ap (λ (s : List ℕ). paste d at s (length s)) (sym (decimal_step n (omega arith) (omega arith)));
     }

@@ -6,4 +6,4 @@ pub returns : goal.returns
 returns c =
     let t = c.args.text.now in
     let at = c.args.at in
-    record { end = refl; bytes = put_mid-paste at (at + length t - at) c.args.bytes.now _ t (length t) c.copy-from-slice.ensures.after (omega arith) refl }
+    record { end = refl; bytes = put_mid-paste at (at + length t - at) c.args.bytes.now _ t (length t) c.copy_from_slice.ensures.after (omega arith) refl }

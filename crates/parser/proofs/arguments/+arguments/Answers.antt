@@ -13,24 +13,24 @@ use Rattle.parser.proofs.Ways.{fails, fails_on, lacks, broke, gone, turned, nor,
 use Rattle.parser.proofs.Levels.{opened, joining, leafing, entering}
 use Rattle.parser.proofs.arguments.+arguments.Goals as goal
 
-pub returns-in-err-left : goal.returns-in-err-left
-returns-in-err-left t c =
-    broke _ _ _ _ _ _ _ _ c.from-residual.ensures.1
-    (fails c.in-err-left.ensures (opened e0 (list arguments) (further (more? arguments) ∷ []) (λ t. refl) _ _))
+pub returns-in_err-left : goal.returns-in_err-left
+returns-in_err-left t c =
+    broke _ _ _ _ _ _ _ _ c.from_residual.ensures.1
+    (fails c.in_err-left.ensures (opened e0 (list arguments) (further (more? arguments) ∷ []) (λ t. refl) _ _))
 
-pub returns-in-err-right : goal.returns-in-err-right
-returns-in-err-right t c =
-    broke _ _ _ _ _ _ _ _ c.from-residual-in-err-right.ensures.1
-    (fails c.in-err-right.ensures
+pub returns-in_err-right : goal.returns-in_err-right
+returns-in_err-right t c =
+    broke _ _ _ _ _ _ _ _ c.from_residual-in_err-right.ensures.1
+    (fails c.in_err-right.ensures
     (took (tail (more? arguments)) (joining (list arguments)) (λ o. (refl, tt)) c.in-Some.ensures
-    (call c.in-ok-left.ensures (opened e0 (list arguments) (further (more? arguments) ∷ []) (λ t. refl) _ _))))
+    (call c.in_ok-left.ensures (opened e0 (list arguments) (further (more? arguments) ∷ []) (λ t. refl) _ _))))
 
 pub returns-in-Some : goal.returns-in-Some
 returns-in-Some t c =
-    done (put_join c.push.ensures (call c.in-ok-right.ensures
+    done (put_join c.push.ensures (call c.in_ok-right.ensures
     (took (tail (more? arguments)) (joining (list arguments)) (λ o. (refl, tt)) c.in-Some.ensures
-    (call c.in-ok-left.ensures (opened e0 (list arguments) (further (more? arguments) ∷ []) (λ t. refl) _ _)))))
+    (call c.in_ok-left.ensures (opened e0 (list arguments) (further (more? arguments) ∷ []) (λ t. refl) _ _)))))
 
 pub returns : goal.returns
 returns t c =
-    done (gone (more? arguments) (Comma ∷ []) (λ t. refl) refl c.in-default.ensures (call c.in-ok-left.ensures (opened e0 (list arguments) (further (more? arguments) ∷ []) (λ t. refl) _ _)))
+    done (gone (more? arguments) (Comma ∷ []) (λ t. refl) refl c.in_default.ensures (call c.in_ok-left.ensures (opened e0 (list arguments) (further (more? arguments) ∷ []) (λ t. refl) _ _)))

@@ -13,33 +13,33 @@ use Rattle.parser.proofs.Ways.{fails, fails_on, lacks, broke, gone, turned, nor,
 use Rattle.parser.proofs.Levels.{opened, joining, leafing, entering}
 use Rattle.parser.proofs.types.formal.Goals as goal
 
-pub returns-in-err-part : goal.returns-in-err-part
-returns-in-err-part c =
-    broke _ _ _ _ _ _ _ _ c.from-residual.ensures.1
-    (fails c.in-err-part.ensures (opened type formal (further formal_name ∷ []) (λ t. refl) _ _))
+pub returns-in_err-part : goal.returns-in_err-part
+returns-in_err-part c =
+    broke _ _ _ _ _ _ _ _ c.from_residual.ensures.1
+    (fails c.in_err-part.ensures (opened type formal (further formal_name ∷ []) (λ t. refl) _ _))
 
-pub returns-in-err-name : goal.returns-in-err-name
-returns-in-err-name c =
-    broke _ _ _ _ _ _ _ _ c.from-residual-in-err-name.ensures.1
-    (lacks c.in-err-name.ensures (put_under c.push-part.ensures (made_under (took (tail formal_name) (λ k o. make (undered o) ∷ token Name undered ∷ []) (λ o. (refl, tt)) c.in-Some.ensures
-    (call c.in-ok-part.ensures (opened type formal (further formal_name ∷ []) (λ t. refl) _ _))))))
+pub returns-in_err-name : goal.returns-in_err-name
+returns-in_err-name c =
+    broke _ _ _ _ _ _ _ _ c.from_residual-in_err-name.ensures.1
+    (lacks c.in_err-name.ensures (put_under c.push-part.ensures (made_under (took (tail formal_name) (λ k o. make (undered o) ∷ token Name undered ∷ []) (λ o. (refl, tt)) c.in-Some.ensures
+    (call c.in_ok-part.ensures (opened type formal (further formal_name ∷ []) (λ t. refl) _ _))))))
 
 pub returns-in-Some : goal.returns-in-Some
 returns-in-Some c =
-    done (put_under c.push.ensures (capped_by c.in-ok-name.ensures (put_under c.push-part.ensures (made_under (took (tail formal_name) (λ k o. make (undered o) ∷ token Name undered ∷ []) (λ o. (refl, tt)) c.in-Some.ensures
-    (call c.in-ok-part.ensures (opened type formal (further formal_name ∷ []) (λ t. refl) _ _)))))))
+    done (put_under c.push.ensures (capped_by c.in_ok-name.ensures (put_under c.push-part.ensures (made_under (took (tail formal_name) (λ k o. make (undered o) ∷ token Name undered ∷ []) (λ o. (refl, tt)) c.in-Some.ensures
+    (call c.in_ok-part.ensures (opened type formal (further formal_name ∷ []) (λ t. refl) _ _)))))))
 
 pub push-requires : goal.push-requires
 push-requires c =
-    pays (capped_by c.in-ok-name.ensures (put_under c.push-part.ensures (made_under (took (tail formal_name) (λ k o. make (undered o) ∷ token Name undered ∷ []) (λ o. (refl, tt)) c.in-Some.ensures
-    (call c.in-ok-part.ensures (opened type formal (further formal_name ∷ []) (λ t. refl) _ _)))))) c.requires
+    pays (capped_by c.in_ok-name.ensures (put_under c.push-part.ensures (made_under (took (tail formal_name) (λ k o. make (undered o) ∷ token Name undered ∷ []) (λ o. (refl, tt)) c.in-Some.ensures
+    (call c.in_ok-part.ensures (opened type formal (further formal_name ∷ []) (λ t. refl) _ _)))))) c.requires
 
-pub returns-in-err-token : goal.returns-in-err-token
-returns-in-err-token c =
-    broke _ _ _ _ _ _ _ _ c.from-residual-in-err-token.ensures.1
-    (nor (tail formal_name) (Ampersand ∷ []) (Name ∷ []) (Name ∷ Ampersand ∷ []) (λ t. refl) (refl, (refl, tt)) refl c.in-default.ensures c.in-err-token.ensures (call c.in-ok-part.ensures (opened type formal (further formal_name ∷ []) (λ t. refl) _ _)))
+pub returns-in_err-token : goal.returns-in_err-token
+returns-in_err-token c =
+    broke _ _ _ _ _ _ _ _ c.from_residual-in_err-token.ensures.1
+    (nor (tail formal_name) (Ampersand ∷ []) (Name ∷ []) (Name ∷ Ampersand ∷ []) (λ t. refl) (refl, (refl, tt)) refl c.in_default.ensures c.in_err-token.ensures (call c.in_ok-part.ensures (opened type formal (further formal_name ∷ []) (λ t. refl) _ _)))
 
 pub returns : goal.returns
 returns c =
-    done (put_under c.push-2.ensures (made_under (took (tail formal_name) (λ k o. make (undered o) ∷ []) (λ o. (refl, tt)) c.in-ok-token.ensures
-    (skip c.in-default.ensures.0 (call c.in-ok-part.ensures (opened type formal (further formal_name ∷ []) (λ t. refl) _ _))))))
+    done (put_under c.push-2.ensures (made_under (took (tail formal_name) (λ k o. make (undered o) ∷ []) (λ o. (refl, tt)) c.in_ok-token.ensures
+    (skip c.in_default.ensures.0 (call c.in_ok-part.ensures (opened type formal (further formal_name ∷ []) (λ t. refl) _ _))))))

@@ -13,29 +13,29 @@ use Rattle.parser.proofs.Ways.{fails, fails_on, lacks, broke, gone, turned, nor,
 use Rattle.parser.proofs.Levels.{opened, joining, leafing, entering}
 use Rattle.parser.proofs.types.formal_list.Goals as goal
 
-pub returns-in-err-token : goal.returns-in-err-token
-returns-in-err-token c =
-    broke _ _ _ _ _ _ _ _ c.from-residual.ensures.1
-    (nowhere (whole (enclosed formal_parens)) (Open ∷ []) (λ t. refl) refl c.in-err-token.ensures (start (expect (enclosed formal_parens) ∷ []) _ _))
+pub returns-in_err-token : goal.returns-in_err-token
+returns-in_err-token c =
+    broke _ _ _ _ _ _ _ _ c.from_residual.ensures.1
+    (nowhere (whole (enclosed formal_parens)) (Open ∷ []) (λ t. refl) refl c.in_err-token.ensures (start (expect (enclosed formal_parens) ∷ []) _ _))
 
 pub returns-in-Some : goal.returns-in-Some
 returns-in-Some c =
-    done (put_leaf c.push.ensures (at_once formal_parens c.in-Some.ensures (took (whole (enclosed formal_parens)) (entering formal_parens) (λ o. (refl, tt)) c.in-ok-token.ensures
+    done (put_leaf c.push.ensures (at_once formal_parens c.in-Some.ensures (took (whole (enclosed formal_parens)) (entering formal_parens) (λ o. (refl, tt)) c.in_ok-token.ensures
     (start (expect (enclosed formal_parens) ∷ []) _ _))))
 
-pub returns-in-err-part : goal.returns-in-err-part
-returns-in-err-part c =
-    broke _ _ _ _ _ _ _ _ c.from-residual-in-err-part.ensures.1
-    (fails c.in-err-part.ensures (entered formal_parens c.in-default.ensures (took (whole (enclosed formal_parens)) (entering formal_parens) (λ o. (refl, tt)) c.in-ok-token.ensures
+pub returns-in_err-part : goal.returns-in_err-part
+returns-in_err-part c =
+    broke _ _ _ _ _ _ _ _ c.from_residual-in_err-part.ensures.1
+    (fails c.in_err-part.ensures (entered formal_parens c.in_default.ensures (took (whole (enclosed formal_parens)) (entering formal_parens) (λ o. (refl, tt)) c.in_ok-token.ensures
     (start (expect (enclosed formal_parens) ∷ []) _ _))))
 
-pub returns-in-err-expect : goal.returns-in-err-expect
-returns-in-err-expect c =
-    broke _ _ _ _ _ _ _ _ c.from-residual-in-err-expect.ensures.1
-    (lacks c.in-err-expect.ensures (made_under (call c.in-ok-part.ensures (entered formal_parens c.in-default.ensures (took (whole (enclosed formal_parens)) (entering formal_parens) (λ o. (refl, tt)) c.in-ok-token.ensures
+pub returns-in_err-expect : goal.returns-in_err-expect
+returns-in_err-expect c =
+    broke _ _ _ _ _ _ _ _ c.from_residual-in_err-expect.ensures.1
+    (lacks c.in_err-expect.ensures (made_under (call c.in_ok-part.ensures (entered formal_parens c.in_default.ensures (took (whole (enclosed formal_parens)) (entering formal_parens) (λ o. (refl, tt)) c.in_ok-token.ensures
     (start (expect (enclosed formal_parens) ∷ []) _ _))))))
 
 pub returns : goal.returns
 returns c =
-    done (put_under c.push-2.ensures (passed c.in-ok-expect.ensures (made_under (call c.in-ok-part.ensures (entered formal_parens c.in-default.ensures (took (whole (enclosed formal_parens)) (entering formal_parens) (λ o. (refl, tt)) c.in-ok-token.ensures
+    done (put_under c.push-2.ensures (passed c.in_ok-expect.ensures (made_under (call c.in_ok-part.ensures (entered formal_parens c.in_default.ensures (took (whole (enclosed formal_parens)) (entering formal_parens) (λ o. (refl, tt)) c.in_ok-token.ensures
     (start (expect (enclosed formal_parens) ∷ []) _ _)))))))

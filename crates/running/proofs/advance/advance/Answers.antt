@@ -13,23 +13,23 @@ loop-before-preserved g c = λ count.
     let code = g.S.Shelf.code c.args.shelf.now in
     let start = begun count (machine_of c.args.registers.now c.args.cells.now (g.H.Host.meaning c.args.host.now)) in
     let b = machine_of c.loop-before.registers c.loop-before.cells (g.H.Host.meaning c.loop-before.host) in
-    let a = machine_of c.carry-out-standing.new.registers c.carry-out-standing.new.cells (g.H.Host.meaning c.carry-out-standing.new.host) in
+    let a = machine_of c.carry_out-standing.new.registers c.carry_out-standing.new.cells (g.H.Host.meaning c.carry_out-standing.new.host) in
     goes_on code start c.loop-before.before (count + c.loop-before.before) b (c.loop-before.invariant count) a c.in-Going.ensures
     ∙ ap (λ (n : ℕ). begun n a) (add_assoc count c.loop-before.before 1)
 
-pub returns-in-default : goal.returns-in-default
-returns-in-default g c =
+pub returns-in_default : goal.returns-in_default
+returns-in_default g c =
     record {
       ran = λ count.
           let code = g.S.Shelf.code c.args.shelf.now in
           let start = begun count (machine_of c.args.registers.now c.args.cells.now (g.H.Host.meaning c.args.host.now)) in
           let b = machine_of c.loop-before.registers c.loop-before.cells (g.H.Host.meaning c.loop-before.host) in
-          let a = machine_of c.carry-out-standing.new.registers c.carry-out-standing.new.cells (g.H.Host.meaning c.carry-out-standing.new.host) in
-          let s = c.carry-out-standing.result in
+          let a = machine_of c.carry_out-standing.new.registers c.carry_out-standing.new.cells (g.H.Host.meaning c.carry_out-standing.new.host) in
+          let s = c.carry_out-standing.result in
           let n = c.loop-before.before in
-          ended code start (n + 1) c.args.budget (count + (n + 1)) s a c.in-default.not-Going (omega arith)
+          ended code start (n + 1) c.args.budget (count + (n + 1)) s a c.in_default.not-Going (omega arith)
           (subst (λ (k : ℕ). Shows (run code (n + 1) start) s k a) (add_assoc count n 1)
-          (ends code start n (count + n) b (c.loop-before.invariant count) s a c.in-default.not-Going c.carry-out-standing.ensures));
+          (ends code start n (count + n) b (c.loop-before.invariant count) s a c.in_default.not-Going c.carry_out-standing.ensures));
       within = omega arith;
     }
 

@@ -5,15 +5,15 @@ use Rattle.running.specs.Calculations.{address}
 use Rattle.running.proofs.Elements.{wide, distance_fits, sum_fits, in_bounds, made_sum}
 use Rattle.running.proofs.calculating.element.Goals as goal
 
-pub overflow-mul-distance : goal.overflow-mul-distance
-overflow-mul-distance c =
+pub overflow_mul-distance : goal.overflow_mul-distance
+overflow_mul-distance c =
     let f = c.ranges.index in
     let w = wide c.args.index f in
     let s : to_z w64 c.args.size ≡ pos c.args.size = to_z_pos w64 c.args.size (omega arith) in
     simp (to_z-of_z, s) (distance_fits c.args.index c.args.size f (simp to_z-of_z at c.if-index-lt0.false) c.ranges.size.fits)
 
-pub overflow-add-start : goal.overflow-add-start
-overflow-add-start c =
+pub overflow_add-start : goal.overflow_add-start
+overflow_add-start c =
     let f = c.ranges.index in
     let g = c.ranges.start in
     let w = wide c.args.index f in

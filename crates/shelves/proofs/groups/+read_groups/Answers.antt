@@ -17,31 +17,31 @@ returns-then-group-lt128 t c =
     let p = limit_some (c.args.most - 1) in
     record { answer = sym (read_last c.args.most c.args.bytes.now c.args.at (omega arith) (omega arith) (omega arith)); fits = omega arith }
 
-pub read-groups-requires : goal.read-groups-requires
-read-groups-requires t c = let s = limit_step c.args.most (omega arith) in (omega arith, omega arith)
+pub read_groups-requires : goal.read_groups-requires
+read_groups-requires t c = let s = limit_step c.args.most (omega arith) in (omega arith, omega arith)
 
-pub returns-in-err-high : goal.returns-in-err-high
-returns-in-err-high t c =
+pub returns-in_err-high : goal.returns-in_err-high
+returns-in_err-high t c =
     let more = read_more c.args.most c.args.bytes.now c.args.at (omega arith) (omega arith) (omega arith) in
-    let none = c.in-err-high.ensures.answer in
-    rw c.from-residual.ensures (record { answer = sym (more ∙ ap (raised (get_or c.args.bytes.now c.args.at 0)) (sym none)); fits = tt })
+    let none = c.in_err-high.ensures.answer in
+    rw c.from_residual.ensures (record { answer = sym (more ∙ ap (raised (get_or c.args.bytes.now c.args.at 0)) (sym none)); fits = tt })
 
-pub overflow-mul-result : goal.overflow-mul-result
-overflow-mul-result t c =
+pub overflow_mul-result : goal.overflow_mul-result
+overflow_mul-result t c =
     let s = limit_step c.args.most (omega arith) in
-    omega (arith, c.in-ok-high.ensures.fits)
+    omega (arith, c.in_ok-high.ensures.fits)
 
-pub overflow-add-result-2 : goal.overflow-add-result-2
-overflow-add-result-2 t c =
+pub overflow_add-result-2 : goal.overflow_add-result-2
+overflow_add-result-2 t c =
     let s = limit_step c.args.most (omega arith) in
-    omega (arith, c.in-ok-high.ensures.fits, c.type-inv.bytes c.args.at)
+    omega (arith, c.in_ok-high.ensures.fits, c.type_inv.bytes c.args.at)
 
 pub returns : goal.returns
 returns t c =
     let s = limit_step c.args.most (omega arith) in
     let more = read_more c.args.most c.args.bytes.now c.args.at (omega arith) (omega arith) (omega arith) in
-    let rest = c.in-ok-high.ensures in
+    let rest = c.in_ok-high.ensures in
     record {
       answer = sym (more ∙ ap (raised (get_or c.args.bytes.now c.args.at 0)) (sym rest.answer));
-      fits = omega (arith, rest.fits, c.type-inv.bytes c.args.at);
+      fits = omega (arith, rest.fits, c.type_inv.bytes c.args.at);
     }

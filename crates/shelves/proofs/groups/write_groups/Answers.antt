@@ -14,7 +14,7 @@ loop-i-preserved c =
     let s = groups c.args.n in
     let i = c.loop-i.i in
     let r = c.loop-i.rest in
-    let long : i + 1 < length s = omega (arith, c.group-count-last.ensures) in
+    let long : i + 1 < length s = omega (arith, c.group_count-last.ensures) in
     let step = group_step s (4 - i) r i c.loop-i.invariant.1 long in
     let less : 4 - i - 1 ≡ 4 - (i + 1) = omega arith in (
       ap (λ (xs : List ℕ). set xs (c.args.at + i) (128 + r % 128)) c.loop-i.invariant.0
@@ -23,8 +23,8 @@ loop-i-preserved c =
       step.1 ∙ ap (λ (k : ℕ). coded k (r / 128)) less,
     )
 
-pub overflow-sub-last : goal.overflow-sub-last
-overflow-sub-last c = omega (arith, some_group c.args.n)
+pub overflow_sub-last : goal.overflow_sub-last
+overflow_sub-last c = omega (arith, some_group c.args.n)
 
 pub returns : goal.returns
 returns c =
@@ -33,9 +33,9 @@ returns c =
     let at = c.args.at in
     let i = c.loop-i.i in
     let some = some_group c.args.n in
-    let count = c.group-count-last.ensures in
+    let count = c.group_count-last.ensures in
     let all : length s ≡ i + 1 = omega arith in
-    let here : at + (c.group-count-last.result - 1) ≡ at + i = omega arith in
+    let here : at + (c.group_count-last.result - 1) ≡ at + i = omega arith in
     let last = group_last s (4 - i) c.loop-i.rest i c.loop-i.invariant.1 all in
     let written =
     ap (λ (k : ℕ). set c.loop-i.bytes k (c.loop-i.rest % 128)) here
@@ -45,7 +45,7 @@ returns c =
     ∙ ap (paste d at s) (sym all)
     ∙ paste_all d at s (length s) refl
     in
-    let end : at + (c.group-count-last.result - 1) + 1 ≡ at + length s = omega arith in
+    let end : at + (c.group_count-last.result - 1) + 1 ≡ at + length s = omega arith in
     record {
       end = end;
       bytes = written;

@@ -6,9 +6,9 @@ use Rattle.shelves.proofs.Laws.{cost_most}
 use Rattle.shelves.proofs.Views.{operands_sliced}
 use Rattle.shelves.proofs.writing.encoded_length.Goals as goal
 
-pub overflow-add-result : goal.overflow-add-result
+pub overflow_add-result : goal.overflow_add-result
 unfolding encoded
-overflow-add-result c =
+overflow_add-result c =
     let s = operands_sliced c.args.instruction c.of-parts.result c.arity.result c.of-parts.ensures c.arity.ensures.value in
     omega (arith, ap (λ (ns : List ℕ). length (flat_map groups ns)) s, cost_most c.args.instruction)
 

@@ -6,8 +6,8 @@ use Rattle.shelves.proofs.Digits.{most_groups}
 use Rattle.shelves.proofs.Written.{length_step}
 use Rattle.shelves.proofs.writing.groups_length.Goals as goal
 
-pub overflow-add-total : goal.overflow-add-total
-overflow-add-total c = omega (arith, most_groups (get_or c.args.numbers.now c.loop-n.n-index 0))
+pub overflow_add-total : goal.overflow_add-total
+overflow_add-total c = omega (arith, most_groups (get_or c.args.numbers.now c.loop-n.n-index 0))
 
 pub loop-n-preserved : goal.loop-n-preserved
 loop-n-preserved c =

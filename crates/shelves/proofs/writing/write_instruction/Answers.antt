@@ -14,9 +14,9 @@ use Rattle.shelves.proofs.writing.write_instruction.Goals as goal
 pub bounds-bytes-at : goal.bounds-bytes-at
 bounds-bytes-at c = omega (arith, cost_least c.args.instruction)
 
-pub write-numbers-requires : goal.write-numbers-requires
+pub write_numbers-requires : goal.write_numbers-requires
 unfolding encoded
-write-numbers-requires c =
+write_numbers-requires c =
     let s = operands_sliced c.args.instruction c.of-parts.result c.arity.result c.of-parts.ensures c.arity.ensures.value in
     simp length-set (omega (arith, ap (λ (ns : List ℕ). length (flat_map groups ns)) s))
 
@@ -28,9 +28,9 @@ returns c =
     let at = c.args.at in
     let s = operands_sliced i c.of-parts.result c.arity.result c.of-parts.ensures c.arity.ensures.value in
     record {
-      end = omega (arith, c.write-numbers.ensures.end, ap (λ (ns : List ℕ). length (flat_map groups ns)) s);
+      end = omega (arith, c.write_numbers.ensures.end, ap (λ (ns : List ℕ). length (flat_map groups ns)) s);
       bytes =
-          c.write-numbers.ensures.bytes
+          c.write_numbers.ensures.bytes
           ∙ ap (λ (ns : List ℕ). paste (set d at c.of-parts.result.code) (at + 1) (flat_map groups ns) (length (flat_map groups ns))) s
           ∙ ap (λ (q : Parts). paste (set d at q.code) (at + 1) (flat_map groups (raws i)) (length (flat_map groups (raws i)))) c.of-parts.ensures
           ∙ paste_first d at (view i).0 (flat_map groups (raws i)) (omega arith);

@@ -10,8 +10,8 @@ use Rattle.shelves.proofs.writing.write_numbers.Goals as goal
 pub loop-n-init : goal.loop-n-init
 loop-n-init c = (omega arith, paste_none c.args.bytes.now c.args.at [])
 
-pub write-groups-end-requires : goal.write-groups-end-requires
-write-groups-end-requires c =
+pub write_groups-end-requires : goal.write_groups-end-requires
+write_groups-end-requires c =
     let ns = c.args.numbers.now in
     let i = c.loop-n.n-index in
     omega (arith, length_step ns i (omega arith), length_front ns (i + 1))
@@ -23,7 +23,7 @@ loop-n-preserved c =
     let d = c.args.bytes.now in
     let at = c.args.at in (
       omega (arith, length_step ns i (omega arith)),
-      c.write-groups-end.ensures.bytes
+      c.write_groups-end.ensures.bytes
           ∙ paste_more_bytes d c.loop-n.bytes (flat_map groups (take i ns)) (groups (get_or ns i 0)) at c.loop-n.end (omega arith) c.loop-n.invariant.0 c.loop-n.invariant.1
           ∙ ap (λ (s : List ℕ). paste d at s (length s)) (sym (joined_step ns i (omega arith))),
     )

@@ -20,14 +20,14 @@ returns c =
     let out = s.output.now in
     let u = s.used in
     let e = c.args.event in
-    let pair = c.pair-of.result in
+    let pair = c.pair_of.result in
     let fa : SFits w32 (get_or pair 0 (pos 0)) = search rules in
     let fb : SFits w32 (get_or pair 1 (pos 0)) = search rules in
     let two = numbered_two e in
     let n : length (take u out) ≡ u = simp length-take (omega arith) in
     let fits = said_fits e (number_host (drop s.read s.input.now) (take u out) (length out)) (omega arith) in
-    let same : numbered e ≡ pair = sym c.pair-of.ensures in
+    let same : numbered e ≡ pair = sym c.pair_of.ensures in
     let waiting = drop s.read s.input.now in
     let written = wrote_two waiting out u (get_or pair 0 (pos 0)) (get_or pair 1 (pos 0)) (omega arith)
-    ∙ ap (λ (r : List ℤ). number_host waiting (take u out ++ r) (length out)) (simp same at (sym (numbered_pair e)) ∙ c.pair-of.ensures) in
+    ∙ ap (λ (r : List ℤ). number_host waiting (take u out ++ r) (length out)) (simp same at (sym (numbered_pair e)) ∙ c.pair_of.ensures) in
     record { answer = sym fits.0; after = simp to_z-of_z (written ∙ sym fits.1); some = omega arith }

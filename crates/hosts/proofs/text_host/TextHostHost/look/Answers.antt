@@ -8,11 +8,11 @@ use Rattle.hosts.proofs.text_host.TextHostHost.look.Goals as goal
 pub returns-then-start-end : goal.returns-then-start-end
 returns-then-start-end c =
     let s = c.args.self.now in
-    let none = next_none s.input.now s.read c.run-end-start.result c.run-end-end.result c.run-end-start.ensures.value c.run-end-end.ensures.value c.if-start-end.true in
+    let none = next_none s.input.now s.read c.run_end-start.result c.run_end-end.result c.run_end-start.ensures.value c.run_end-end.ensures.value c.if-start-end.true in
     sym (ap (λ (ps : List (List ℕ)). first (map item_of ps)) none)
 
 pub returns : goal.returns
 returns c =
     let s = c.args.self.now in
-    let some = next_some s.input.now s.read c.run-end-start.result c.run-end-end.result c.run-end-start.ensures.value c.run-end-end.ensures.value (omega arith) in
-    ap (λ (i : Item). Some i) c.read-item.ensures ∙ sym (ap (λ (ps : List (List ℕ)). first (map item_of ps)) some)
+    let some = next_some s.input.now s.read c.run_end-start.result c.run_end-end.result c.run_end-start.ensures.value c.run_end-end.ensures.value (omega arith) in
+    ap (λ (i : Item). Some i) c.read_item.ensures ∙ sym (ap (λ (ps : List (List ℕ)). first (map item_of ps)) some)

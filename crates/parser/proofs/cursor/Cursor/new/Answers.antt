@@ -4,13 +4,13 @@ use Rattle.parser.specs.Rest.{scanned, listed, tokens_of}
 use Rattle.parser.proofs.Scanning.{onward, from_start, left_start}
 use Rattle.parser.proofs.cursor.Cursor.new.Goals as goal
 
-pub invariant-of-result : goal.invariant-of-result
-invariant-of-result c =
+pub invariant_of-result : goal.invariant_of-result
+invariant_of-result c =
     let s = c.new-scanner.result in
     let e = c.next-next.new.self in
     let from = from_start c.args.source.now c.requires ∙ left_start c.new-scanner.ensures.read c.new-scanner.ensures.source c.new-scanner.ensures.at in
     let o = onward s.source.now (left_of s.read s.source.now s.at) c.next-next.result (left_of e.read e.source.now e.at) (sym (ap scanned from) ∙ c.requires) c.next-next.ensures.left in
-    (o.sound, (ap length (sym (ap (λ x. x.now) c.next-next.ensures.source ∙ c.new-scanner.ensures.source)), tt))
+    record { sound = o.sound; long = ap length (sym (ap (λ x. x.now) c.next-next.ensures.source ∙ c.new-scanner.ensures.source)) }
 
 pub returns : goal.returns
 returns c =

@@ -3,8 +3,8 @@ use Rattle.std.proofs.lemmas.Int.{to_z-of_z}
 use Rattle.running.proofs.Held.{held_length, held_push}
 use Rattle.running.proofs.operands.Operands.push.Goals as goal
 
-pub returns-then-self-ge-MAX-OPERANDS : goal.returns-then-self-ge-MAX-OPERANDS
-returns-then-self-ge-MAX-OPERANDS c =
+pub returns-then-self-ge-MAX_OPERANDS : goal.returns-then-self-ge-MAX_OPERANDS
+returns-then-self-ge-MAX_OPERANDS c =
     let xs = c.args.self.now.items in
     let n : length xs ≡ 128 = search rules in
     let h = held_length xs c.args.self.now.depth (omega arith) in

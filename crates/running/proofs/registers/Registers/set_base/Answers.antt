@@ -2,8 +2,8 @@ use Rattle.std.proofs.Common.{◌≡◌, length, sym, refl, arith, rules}
 use Rattle.running.proofs.Levels.{low_set, past_set}
 use Rattle.running.proofs.registers.Registers.set_base.Goals as goal
 
-pub invariant-of-self : goal.invariant-of-self
-invariant-of-self c = (low_set c.args.self.now.bases c.args.level c.args.base c.args.self.now.low c.requires, tt)
+pub invariant_of-self : goal.invariant_of-self
+invariant_of-self c = record { low = low_set c.args.self.now.bases c.args.level c.args.base c.args.self.now.low c.requires }
 
 pub returns-else-level-lt-LEVELS : goal.returns-else-level-lt-LEVELS
 returns-else-level-lt-LEVELS c =

@@ -3,8 +3,8 @@ use Rattle.shelves.specs.Bytes.{encoded_all}
 use Rattle.shelves.proofs.Laws.{decoded_nil}
 use Rattle.shelves.proofs.byte_shelf.ByteShelfShelf.clear.Goals as goal
 
-pub invariant-of-self : goal.invariant-of-self
-invariant-of-self c = (omega arith, (ap encoded_all decoded_nil, (ap length (sym decoded_nil), tt)))
+pub invariant_of-self : goal.invariant_of-self
+invariant_of-self c = record { within = omega arith; sound = ap encoded_all decoded_nil; counted = ap length (sym decoded_nil) }
 
 pub returns : goal.returns
 returns c = record { after = decoded_nil; fixed = (refl, refl) }

@@ -5,6 +5,6 @@ use Rattle.shelves.proofs.byte_shelf.ByteShelfShelf.cost.Goals as goal
 pub returns : goal.returns
 returns c =
     record {
-      value = c.encoded-length.ensures;
+      value = c.encoded_length.ensures;
       range = λ _. (omega (arith, cost_least c.args.instruction), omega (arith, cost_most c.args.instruction));
     }

@@ -10,7 +10,7 @@ returns-then-n-self c =
     let n = c.args.n in
     let first = take s.used s.tape.bytes.now in
     let few = used_few s.tape.bytes.now s.used (omega arith) s.sound in
-    let found = c.nth-from.ensures ∙ used_nth s.tape.bytes.now s.used n s.sound (omega arith) in
+    let found = c.nth_from.ensures ∙ used_nth s.tape.bytes.now s.used n s.sound (omega arith) in
     record { answer = found; sound = rw (sym found) at (fetched_sound (n < 1048576) (decoded first) n (decoded_lawful first) (omega arith)) }
 
 pub returns-else-n-self : goal.returns-else-n-self

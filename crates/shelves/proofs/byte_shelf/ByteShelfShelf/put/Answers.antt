@@ -11,31 +11,31 @@ returns-then-capacity-self c =
     let s = c.args.self.now in
     let d = s.tape.bytes.now in
     let total = used_total d s.used (omega arith) s.sound in
-    let full = put_full byte_cost (min (length d) 1048576) (decoded (take s.used d)) c.args.instruction (sym c.if-not-is-lawful.ensures) (omega arith) in
+    let full = put_full byte_cost (min (length d) 1048576) (decoded (take s.used d)) c.args.instruction (sym c.if-not-is_lawful.ensures) (omega arith) in
     record { answer = sym full.0; after = sym full.1; fixed = (refl, refl) }
 
-pub overflow-add-self : goal.overflow-add-self
-overflow-add-self c =
+pub overflow_add-self : goal.overflow_add-self
+overflow_add-self c =
     let s = c.args.self.now in
     omega (arith, used_few s.tape.bytes.now s.used (omega arith) s.sound)
 
-pub invariant-of-self : goal.invariant-of-self
-invariant-of-self c =
+pub invariant_of-self : goal.invariant_of-self
+invariant_of-self c =
     let s = c.args.self.now in
     let d = s.tape.bytes.now in
     let i = c.args.instruction in
     let wrote = c.write-self.ensures in
-    let put = used_put d _ s.used c.write-self.result i (omega arith) s.sound (sym c.if-not-is-lawful.ensures) wrote.end wrote.bytes in
+    let put = used_put d _ s.used c.write-self.result i (omega arith) s.sound (sym c.if-not-is_lawful.ensures) wrote.end wrote.bytes in
     let long = ap length wrote.bytes ∙ length-paste d s.used (encoded i) (length (encoded i)) (omega arith) (omega arith) in
     let one = ap length put.0 ∙ length_push (decoded (take s.used d)) i in
-    (omega arith, (put.1, (omega arith, tt)))
+    record { within = omega arith; sound = put.1; counted = omega arith }
 
 pub returns : goal.returns
 returns c =
     let s = c.args.self.now in
     let d = s.tape.bytes.now in
     let i = c.args.instruction in
-    let l = sym c.if-not-is-lawful.ensures in
+    let l = sym c.if-not-is_lawful.ensures in
     let wrote = c.write-self.ensures in
     let put = used_put d _ s.used c.write-self.result i (omega arith) s.sound l wrote.end wrote.bytes in
     let total = used_total d s.used (omega arith) s.sound in
