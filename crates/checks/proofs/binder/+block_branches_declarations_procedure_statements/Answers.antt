@@ -23,9 +23,9 @@ block-declarations-requires t c =
 pub block-returns-in-err-declarations : goal.block-returns-in-err-declarations
 block-returns-in-err-declarations t c =
     record {
-      names = λ u Δ h D. let j = is_under h c.in-Under.is in by (block_under _ _ _ j.whole) (stops _ c.from-residual.ensures.1 (c.in-err-declarations.ensures.names _ _ j.shown (enter {s = c.args.scope.now} _ refl refl D)));
+      names = λ u Δ h D. let j = is_under h c.in-Under.is in by (block_under _ _ _ j.whole) (stops _ c.from_residual.ensures.1 (c.in-err-declarations.ensures.names _ _ j.shown (enter {s = c.args.scope.now} _ refl refl D)));
       scope = c.drop-inner.ensures;
-      keeps = not_ok _ c.from-residual.ensures.0;
+      keeps = not_ok _ c.from_residual.ensures.0;
     }
 
 pub block-statements-requires : goal.block-statements-requires
@@ -82,9 +82,9 @@ branches-block-requires-in-Join t c =
 pub branches-returns-in-err-block : goal.branches-returns-in-err-block
 branches-returns-in-err-block t c =
     record {
-      names = λ u Δ h D. let j = is_join h c.in-Join.is in by (branches_join _ _ _ _ j.whole) (stops _ c.from-residual.ensures.1 (c.in-err-block.ensures.names _ Δ j.left_shown D));
+      names = λ u Δ h D. let j = is_join h c.in-Join.is in by (branches_join _ _ _ _ j.whole) (stops _ c.from_residual.ensures.1 (c.in-err-block.ensures.names _ Δ j.left_shown D));
       scope = c.in-err-block.ensures.scope;
-      keeps = not_ok _ c.from-residual.ensures.0;
+      keeps = not_ok _ c.from_residual.ensures.0;
     }
 
 pub branches-block-requires-in-Join-2 : goal.branches-block-requires-in-Join-2
@@ -145,26 +145,26 @@ declarations-returns-then-is t c =
           });
     }
 
-pub declarations-part-of-its-type-requires : goal.declarations-part-of-its-type-requires
-declarations-part-of-its-type-requires t c =
+pub declarations-part_of-its_type-requires : goal.declarations-part_of-its_type-requires
+declarations-part_of-its_type-requires t c =
     let p = fit_part c.requires.tree c.in-Under.is in
     record { within = p.within; tree = fit_rooted p.tree }
 
-pub declarations-type-tree-requires : goal.declarations-type-tree-requires
-declarations-type-tree-requires t c =
+pub declarations-type_tree-requires : goal.declarations-type_tree-requires
+declarations-type_tree-requires t c =
     let p = fit_part c.requires.tree c.in-Under.is in
-    let q = fit_led c.part-of-its-type.result part_of p.tree c.part-of-its-type.ensures.leads part_less in
+    let q = fit_led c.part_of-its_type.result part_of p.tree c.part_of-its_type.ensures.leads part_less in
     record { within = fit_within q; tree = q; ordered = c.requires.ordered; below = omega arith; free = c.requires.free }
 
 pub declarations-returns-in-err-type-tree : goal.declarations-returns-in-err-type-tree
 declarations-returns-in-err-type-tree t c =
     record {
-      names = λ u Δ h D. let j = is_under h c.in-Under.is in by (declarations_under _ _ _ j.whole) (else_way c.if-is.ensures (then_way c.if-is-2.ensures (stops _ c.from-residual.ensures.1 (c.in-err-type-tree.ensures.names _ Δ (c.part-of-its-type.ensures.leads _ _ j.shown) D))));
-      after = not_ok _ c.from-residual.ensures.0;
+      names = λ u Δ h D. let j = is_under h c.in-Under.is in by (declarations_under _ _ _ j.whole) (else_way c.if-is.ensures (then_way c.if-is-2.ensures (stops _ c.from_residual.ensures.1 (c.in-err-type-tree.ensures.names _ Δ (c.part_of-its_type.ensures.leads _ _ j.shown) D))));
+      after = not_ok _ c.from_residual.ensures.0;
     }
 
-pub declarations-token-at-name-requires : goal.declarations-token-at-name-requires
-declarations-token-at-name-requires t c =
+pub declarations-token_at-name-requires : goal.declarations-token_at-name-requires
+declarations-token_at-name-requires t c =
     let p = fit_part c.requires.tree c.in-Under.is in
     record { within = p.within; tree = fit_rooted p.tree }
 
@@ -178,17 +178,17 @@ pub declarations-returns-then-is-2 : goal.declarations-returns-then-is-2
 declarations-returns-then-is-2 t c =
     let k = c.in-ok-type-tree.ensures.keeps.then _ refl in
     record {
-      names = λ u Δ h D. let j = is_under h c.in-Under.is in by (declarations_under _ _ _ j.whole) (else_way c.if-is.ensures (then_way c.if-is-2.ensures (passes (c.in-ok-type-tree.ensures.names _ Δ (c.part-of-its-type.ensures.leads _ _ j.shown) D) (ends (at_token (λ x. twice (innermost Δ) x.place x.text) (c.token-at-name.ensures _ _ j.shown) (c.declare.ensures.twice _ (declares_kept k c.requires.ordered (omega arith) D).inner))))));
+      names = λ u Δ h D. let j = is_under h c.in-Under.is in by (declarations_under _ _ _ j.whole) (else_way c.if-is.ensures (then_way c.if-is-2.ensures (passes (c.in-ok-type-tree.ensures.names _ Δ (c.part_of-its_type.ensures.leads _ _ j.shown) D) (ends (at_token (λ x. twice (innermost Δ) x.place x.text) (c.token_at-name.ensures _ _ j.shown) (c.declare.ensures.twice _ (declares_kept k c.requires.ordered (omega arith) D).inner))))));
       after = with_ok c.declare.ensures.named (λ q.
           record {
             grown = grown_behind k (grown_named q);
-            declares = λ u Δ h D. let j = is_under h c.in-Under.is in subst (λ z. Declares c.args.source.now (items c.declare.new.table) c.declare.new.scope z) (sym (opened_type _ _ Δ j.whole c.if-is.ensures c.if-is-2.ensures)) (declares_text Δ (ap (λ x. x.text) (c.token-at-name.ensures _ _ j.shown)) (declares_named q c.requires.ordered (declares_kept k c.requires.ordered (omega arith) D)));
+            declares = λ u Δ h D. let j = is_under h c.in-Under.is in subst (λ z. Declares c.args.source.now (items c.declare.new.table) c.declare.new.scope z) (sym (opened_type _ _ Δ j.whole c.if-is.ensures c.if-is-2.ensures)) (declares_text Δ (ap (λ x. x.text) (c.token_at-name.ensures _ _ j.shown)) (declares_named q c.requires.ordered (declares_kept k c.requires.ordered (omega arith) D)));
             few = λ u h. let j = is_under h c.in-Under.is in let n = new_type _ j.part j.whole c.if-is.ensures c.if-is-2.ensures in omega (arith, q.next);
           });
     }
 
-pub declarations-type-tree-requires-then-is-3 : goal.declarations-type-tree-requires-then-is-3
-declarations-type-tree-requires-then-is-3 t c =
+pub declarations-type_tree-requires-then-is-3 : goal.declarations-type_tree-requires-then-is-3
+declarations-type_tree-requires-then-is-3 t c =
     let p = fit_part c.requires.tree c.in-Under.is in
     record { within = p.within; tree = p.tree; ordered = c.requires.ordered; below = omega arith; free = c.requires.free }
 
@@ -308,8 +308,8 @@ declarations-returns-else-is-6 t c =
       after = yes_ok (record { grown = grown_none c.requires.free; declares = λ u Δ h D. let j = is_join h c.in-Join.is in subst (λ z. Declares c.args.source.now (items c.args.table.now) c.args.scope.now z) (sym (opened_none_join _ _ _ Δ j.whole c.if-is-4.ensures c.if-is-5.ensures c.if-is-6.ensures)) D; few = λ u h. omega arith });
     }
 
-pub procedure-token-at-name-requires : goal.procedure-token-at-name-requires
-procedure-token-at-name-requires t c =
+pub procedure-token_at-name-requires : goal.procedure-token_at-name-requires
+procedure-token_at-name-requires t c =
     record { within = within c.requires.trees.head_shown; tree = record { source = c.args.source.now; tree = c.requires.trees.head; shown = c.requires.trees.head_shown } }
 
 pub procedure-declare-requires : goal.procedure-declare-requires
@@ -317,49 +317,49 @@ procedure-declare-requires t c =
     let f = c.requires.trees.fits in
     record { ordered = c.requires.ordered; within = c.requires.free; room = omega arith }
 
-pub procedure-returns-in-err-declare : goal.procedure-returns-in-err-declare
-procedure-returns-in-err-declare t c =
+pub procedure-returns-in_err-declare : goal.procedure-returns-in_err-declare
+procedure-returns-in_err-declare t c =
     record {
-      names = λ l m Δ h i D. by (made refl) (stops {A = twice (innermost Δ) (token_of l).place (token_of l).text} {p = last (names_formals (formals (part_of l) Formals.no_formal) ([] ∷ added (token_of l).text Δ) ++ names_block (block m) (open_formals (formals (part_of l) Formals.no_formal) ([] ∷ added (token_of l).text Δ)))} _ c.from-residual.ensures.1 (at_token (λ x. twice (innermost Δ) x.place x.text) (c.token-at-name.ensures _ _ h) (c.in-err-declare.ensures.twice _ D.inner)));
-      after = not_ok _ c.from-residual.ensures.0;
+      names = λ l m Δ h i D. by (made refl) (stops {A = twice (innermost Δ) (token_of l).place (token_of l).text} {p = last (names_formals (formals (part_of l) Formals.no_formal) ([] ∷ added (token_of l).text Δ) ++ names_block (block m) (open_formals (formals (part_of l) Formals.no_formal) ([] ∷ added (token_of l).text Δ)))} _ c.from_residual.ensures.1 (at_token (λ x. twice (innermost Δ) x.place x.text) (c.token_at-name.ensures _ _ h) (c.in_err-declare.ensures.twice _ D.inner)));
+      after = not_ok _ c.from_residual.ensures.0;
     }
 
-pub procedure-part-of-its-formals-requires : goal.procedure-part-of-its-formals-requires
-procedure-part-of-its-formals-requires t c =
+pub procedure-part_of-its_formals-requires : goal.procedure-part_of-its_formals-requires
+procedure-part_of-its_formals-requires t c =
     record { within = within c.requires.trees.head_shown; tree = record { source = c.args.source.now; tree = c.requires.trees.head; shown = c.requires.trees.head_shown } }
 
 pub procedure-formals-requires : goal.procedure-formals-requires
 procedure-formals-requires t c =
-    let n = c.in-ok-declare.ensures.named.then _ refl in
-    let q = fit_led c.part-of-its-formals.result part_of (head_fits c.declare.new.scope.top n.next n.keeps.room c.requires.trees) c.part-of-its-formals.ensures.leads part_less in
+    let n = c.in_ok-declare.ensures.named.then _ refl in
+    let q = fit_led c.part_of-its_formals.result part_of (head_fits c.declare.new.scope.top n.next n.keeps.room c.requires.trees) c.part_of-its_formals.ensures.leads part_less in
     record { within = fit_within q; tree = q; ordered = omega arith; free = omega (arith, n.next, n.long) }
 
-pub procedure-returns-in-err-formals : goal.procedure-returns-in-err-formals
-procedure-returns-in-err-formals t c =
-    let n = c.in-ok-declare.ensures.named.then _ refl in
+pub procedure-returns-in_err-formals : goal.procedure-returns-in_err-formals
+procedure-returns-in_err-formals t c =
+    let n = c.in_ok-declare.ensures.named.then _ refl in
     record {
-      names = λ l m Δ h i D. by (made {p = next (twice (innermost Δ) (token_of l).place (token_of l).text) (next (names_formals (formals (part_of l) Formals.no_formal) ([] ∷ added (token_of l).text Δ)) (last (names_block (block m) (open_formals (formals (part_of l) Formals.no_formal) ([] ∷ added (token_of l).text Δ)))))} refl) (passes (at_token (λ x. twice (innermost Δ) x.place x.text) (c.token-at-name.ensures _ _ h) (c.in-ok-declare.ensures.twice _ D.inner)) (stops _ c.from-residual-in-err-formals.ensures.1 (c.in-err-formals.ensures.names _ _ (c.part-of-its-formals.ensures.leads _ _ h) (enter {s = c.declare.new.scope} _ refl refl (declares_text Δ (ap (λ x. x.text) (c.token-at-name.ensures _ _ h)) (declares_named n c.requires.ordered D))))));
-      after = not_ok _ c.from-residual-in-err-formals.ensures.0;
+      names = λ l m Δ h i D. by (made {p = next (twice (innermost Δ) (token_of l).place (token_of l).text) (next (names_formals (formals (part_of l) Formals.no_formal) ([] ∷ added (token_of l).text Δ)) (last (names_block (block m) (open_formals (formals (part_of l) Formals.no_formal) ([] ∷ added (token_of l).text Δ)))))} refl) (passes (at_token (λ x. twice (innermost Δ) x.place x.text) (c.token_at-name.ensures _ _ h) (c.in_ok-declare.ensures.twice _ D.inner)) (stops _ c.from_residual-in_err-formals.ensures.1 (c.in_err-formals.ensures.names _ _ (c.part_of-its_formals.ensures.leads _ _ h) (enter {s = c.declare.new.scope} _ refl refl (declares_text Δ (ap (λ x. x.text) (c.token_at-name.ensures _ _ h)) (declares_named n c.requires.ordered D))))));
+      after = not_ok _ c.from_residual-in_err-formals.ensures.0;
     }
 
 pub procedure-block-requires : goal.procedure-block-requires
 procedure-block-requires t c =
-    let n = c.in-ok-declare.ensures.named.then _ refl in
-    let g = c.in-ok-formals.ensures.after.then _ refl in
-    let b = body_fits part_of c.formals.new.scope.top (capacity c.formals.new.table) part_less (λ l h. omega (arith, n.next, g.few _ (c.part-of-its-formals.ensures.leads _ _ h))) (g.grown.keeps.room ∙ n.keeps.room) c.requires.trees in
+    let n = c.in_ok-declare.ensures.named.then _ refl in
+    let g = c.in_ok-formals.ensures.after.then _ refl in
+    let b = body_fits part_of c.formals.new.scope.top (capacity c.formals.new.table) part_less (λ l h. omega (arith, n.next, g.few _ (c.part_of-its_formals.ensures.leads _ _ h))) (g.grown.keeps.room ∙ n.keeps.room) c.requires.trees in
     (omega arith, (fit_within b, (b, (omega (arith, g.grown.start, g.grown.more), g.grown.within))))
 
 pub procedure-returns : goal.procedure-returns
 procedure-returns t c =
-    let n = c.in-ok-declare.ensures.named.then _ refl in
-    let g = c.in-ok-formals.ensures.after.then _ refl in
+    let n = c.in_ok-declare.ensures.named.then _ refl in
+    let g = c.in_ok-formals.ensures.after.then _ refl in
     record {
-      names = λ l m Δ h i D. by (made {p = next (twice (innermost Δ) (token_of l).place (token_of l).text) (next (names_formals (formals (part_of l) Formals.no_formal) ([] ∷ added (token_of l).text Δ)) (last (names_block (block m) (open_formals (formals (part_of l) Formals.no_formal) ([] ∷ added (token_of l).text Δ)))))} refl) (passes (at_token (λ x. twice (innermost Δ) x.place x.text) (c.token-at-name.ensures _ _ h) (c.in-ok-declare.ensures.twice _ D.inner)) (passes (c.in-ok-formals.ensures.names _ _ (c.part-of-its-formals.ensures.leads _ _ h) (enter {s = c.declare.new.scope} _ refl refl (declares_text Δ (ap (λ x. x.text) (c.token-at-name.ensures _ _ h)) (declares_named n c.requires.ordered D)))) (ends (c.block.ensures.names _ _ i (g.declares _ _ (c.part-of-its-formals.ensures.leads _ _ h) (enter {s = c.declare.new.scope} _ refl refl (declares_text Δ (ap (λ x. x.text) (c.token-at-name.ensures _ _ h)) (declares_named n c.requires.ordered D))))))));
+      names = λ l m Δ h i D. by (made {p = next (twice (innermost Δ) (token_of l).place (token_of l).text) (next (names_formals (formals (part_of l) Formals.no_formal) ([] ∷ added (token_of l).text Δ)) (last (names_block (block m) (open_formals (formals (part_of l) Formals.no_formal) ([] ∷ added (token_of l).text Δ)))))} refl) (passes (at_token (λ x. twice (innermost Δ) x.place x.text) (c.token_at-name.ensures _ _ h) (c.in_ok-declare.ensures.twice _ D.inner)) (passes (c.in_ok-formals.ensures.names _ _ (c.part_of-its_formals.ensures.leads _ _ h) (enter {s = c.declare.new.scope} _ refl refl (declares_text Δ (ap (λ x. x.text) (c.token_at-name.ensures _ _ h)) (declares_named n c.requires.ordered D)))) (ends (c.block.ensures.names _ _ i (g.declares _ _ (c.part_of-its_formals.ensures.leads _ _ h) (enter {s = c.declare.new.scope} _ refl refl (declares_text Δ (ap (λ x. x.text) (c.token_at-name.ensures _ _ h)) (declares_named n c.requires.ordered D))))))));
       after = with_ok c.block.ensures.keeps (λ k.
           proceeded_at c.declare.new.scope c.drop-inner-2.ensures
           (record {
             grown = grown_then (grown_named n) (keeps_both g.grown.keeps k g.grown.more);
-            declares = λ l Δ h D. declares_kept (keeps_both g.grown.keeps k g.grown.more) (omega (arith, n.start, n.next)) (omega arith) (declares_text Δ (ap (λ x. x.text) (c.token-at-name.ensures _ _ h)) (declares_named n c.requires.ordered D));
+            declares = λ l Δ h D. declares_kept (keeps_both g.grown.keeps k g.grown.more) (omega (arith, n.start, n.next)) (omega arith) (declares_text Δ (ap (λ x. x.text) (c.token_at-name.ensures _ _ h)) (declares_named n c.requires.ordered D));
             next = n.next;
           }));
     }
@@ -377,10 +377,10 @@ statements-expression-requires t c =
     let p = below_part (behind_rooted c.requires.tree) c.in-Under.is in
     record { within = p.within; tree = p.rooted }
 
-pub statements-returns-then-takes-expression : goal.statements-returns-then-takes-expression
-statements-returns-then-takes-expression t c =
+pub statements-returns-then-takes_expression : goal.statements-returns-then-takes_expression
+statements-returns-then-takes_expression t c =
     record {
-      names = λ u Δ h D. let j = is_under h c.in-Under.is in by (statements_under _ _ _ j.whole) (else_way c.if-is.ensures (then_way c.if-takes-expression.ensures (ends (c.expression.ensures _ Δ j.shown D))));
+      names = λ u Δ h D. let j = is_under h c.in-Under.is in by (statements_under _ _ _ j.whole) (else_way c.if-is.ensures (then_way c.if-takes_expression.ensures (ends (c.expression.ensures _ Δ j.shown D))));
       scope = refl;
       keeps = yes_ok (keeps_all c.requires.free);
     }
@@ -389,10 +389,10 @@ pub statements-block-requires : goal.statements-block-requires
 statements-block-requires t c =
     (omega arith, (c.requires.within, (under_block c.requires.tree c.in-Under.is c.if-is.ensures, (c.requires.ordered, c.requires.free))))
 
-pub statements-returns-else-takes-expression : goal.statements-returns-else-takes-expression
-statements-returns-else-takes-expression t c =
+pub statements-returns-else-takes_expression : goal.statements-returns-else-takes_expression
+statements-returns-else-takes_expression t c =
     record {
-      names = λ u Δ h D. let j = is_under h c.in-Under.is in by (statements_under _ _ _ j.whole) (else_way c.if-is.ensures (else_way c.if-takes-expression.ensures (ends (c.block.ensures.names _ Δ h D))));
+      names = λ u Δ h D. let j = is_under h c.in-Under.is in by (statements_under _ _ _ j.whole) (else_way c.if-is.ensures (else_way c.if-takes_expression.ensures (ends (c.block.ensures.names _ Δ h D))));
       scope = c.block.ensures.scope;
       keeps = c.block.ensures.keeps;
     }
@@ -420,9 +420,9 @@ statements-statements-requires-then-is-3 t c =
 pub statements-returns-in-err-statements : goal.statements-returns-in-err-statements
 statements-returns-in-err-statements t c =
     record {
-      names = λ u Δ h D. let j = is_join h c.in-Join.is in by (statements_join _ _ _ _ j.whole) (else_way c.if-is-2.ensures (then_way c.if-is-3.ensures (stops _ c.from-residual.ensures.1 (c.in-err-statements.ensures.names _ Δ j.left_shown D))));
+      names = λ u Δ h D. let j = is_join h c.in-Join.is in by (statements_join _ _ _ _ j.whole) (else_way c.if-is-2.ensures (then_way c.if-is-3.ensures (stops _ c.from_residual.ensures.1 (c.in-err-statements.ensures.names _ Δ j.left_shown D))));
       scope = c.in-err-statements.ensures.scope;
-      keeps = not_ok _ c.from-residual.ensures.0;
+      keeps = not_ok _ c.from_residual.ensures.0;
     }
 
 pub statements-statements-requires-then-is-3-2 : goal.statements-statements-requires-then-is-3-2
@@ -500,15 +500,15 @@ statements-returns-then-is-5 t c =
       keeps = c.block-then-is-5.ensures.keeps;
     }
 
-pub statements-token-at-name-requires : goal.statements-token-at-name-requires
-statements-token-at-name-requires t c =
+pub statements-token_at-name-requires : goal.statements-token_at-name-requires
+statements-token_at-name-requires t c =
     let p = below_left (behind_rooted c.requires.tree) c.in-Join.is in
     record { within = p.within; tree = p.rooted }
 
 pub statements-returns-in-err-used : goal.statements-returns-in-err-used
 statements-returns-in-err-used t c =
     record {
-      names = λ u Δ h D. let j = is_join h c.in-Join.is in by (statements_join _ _ _ _ j.whole) (else_way c.if-is-2.ensures (else_way c.if-is-3.ensures (else_way c.if-is-4.ensures (else_way c.if-is-5.ensures (stops _ c.from-residual-in-err-used.ensures.1 (at_token (λ x. undeclared Δ x.place x.text) (c.token-at-name.ensures _ _ j.left_shown) (c.in-err-used.ensures Δ D)))))));
+      names = λ u Δ h D. let j = is_join h c.in-Join.is in by (statements_join _ _ _ _ j.whole) (else_way c.if-is-2.ensures (else_way c.if-is-3.ensures (else_way c.if-is-4.ensures (else_way c.if-is-5.ensures (stops _ c.from-residual-in-err-used.ensures.1 (at_token (λ x. undeclared Δ x.place x.text) (c.token_at-name.ensures _ _ j.left_shown) (c.in-err-used.ensures Δ D)))))));
       scope = refl;
       keeps = not_ok _ c.from-residual-in-err-used.ensures.0;
     }
@@ -533,7 +533,7 @@ statements-returns-in-Leaf t c =
 pub statements-returns-in-ok-used : goal.statements-returns-in-ok-used
 statements-returns-in-ok-used t c =
     record {
-      names = λ u Δ h D. let j = is_join h c.in-Join.is in by (statements_join _ _ _ _ j.whole) (else_way c.if-is-2.ensures (else_way c.if-is-3.ensures (else_way c.if-is-4.ensures (else_way c.if-is-5.ensures (passes (at_token (λ x. undeclared Δ x.place x.text) (c.token-at-name.ensures _ _ j.left_shown) (c.in-ok-used.ensures Δ D)) (ends (c.arguments.ensures _ Δ j.right_shown D)))))));
+      names = λ u Δ h D. let j = is_join h c.in-Join.is in by (statements_join _ _ _ _ j.whole) (else_way c.if-is-2.ensures (else_way c.if-is-3.ensures (else_way c.if-is-4.ensures (else_way c.if-is-5.ensures (passes (at_token (λ x. undeclared Δ x.place x.text) (c.token_at-name.ensures _ _ j.left_shown) (c.in-ok-used.ensures Δ D)) (ends (c.arguments.ensures _ Δ j.right_shown D)))))));
       scope = refl;
       keeps = yes_ok (keeps_all c.requires.free);
     }

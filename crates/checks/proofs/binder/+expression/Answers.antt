@@ -32,7 +32,7 @@ expression-requires-in-Join t c =
 pub returns-in-err-expression : goal.returns-in-err-expression
 returns-in-err-expression t c = λ u Δ h D.
     let j = is_join h c.in-Join.is in
-    by (names_join _ _ _ _ j.whole) (stops _ c.from-residual.ensures.1 (c.in-err-expression.ensures _ Δ j.left_shown D))
+    by (names_join _ _ _ _ j.whole) (stops _ c.from_residual.ensures.1 (c.in-err-expression.ensures _ Δ j.left_shown D))
 
 pub returns-then-is-2 : goal.returns-then-is-2
 returns-then-is-2 t c = λ u Δ h D.

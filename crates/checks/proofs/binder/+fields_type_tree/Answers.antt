@@ -11,8 +11,8 @@ use Rattle.checks.proofs.Ready.{fit_part, fit_left, fit_right}
 use Rattle.checks.proofs.Scopes.{yes_ok, not_ok, with_ok, keeps_all, inner_kept, declares_kept, inner_named, grown_named, grown_both, grown_behind, grown_none, inner_none}
 use Rattle.checks.proofs.binder.+fields_type_tree.Goals as goal
 
-pub fields-type-tree-requires : goal.fields-type-tree-requires
-fields-type-tree-requires t c =
+pub fields-type_tree-requires : goal.fields-type_tree-requires
+fields-type_tree-requires t c =
     let p = fit_part c.requires.tree c.in-Under.is in
     (omega arith, (p.within, (p.tree, (c.requires.ordered, (omega arith, c.requires.free)))))
 
@@ -21,8 +21,8 @@ fields-returns-in-err-type-tree t c =
     record {
       names = λ u Δ xs h D I.
           let j = is_under h c.in-Under.is in
-          by (fields_under _ _ _ _ j.whole) (stops _ c.from-residual.ensures.1 (c.in-err-type-tree.ensures.names _ Δ j.shown D));
-      after = not_ok _ c.from-residual.ensures.0;
+          by (fields_under _ _ _ _ j.whole) (stops _ c.from_residual.ensures.1 (c.in-err-type-tree.ensures.names _ Δ j.shown D));
+      after = not_ok _ c.from_residual.ensures.0;
     }
 
 pub fields-declare-requires : goal.fields-declare-requires
@@ -106,35 +106,35 @@ fields-returns-in-ok-fields t c =
           });
     }
 
-pub type-tree-returns-then-is : goal.type-tree-returns-then-is
-type-tree-returns-then-is t c =
+pub type_tree-returns-then-is : goal.type_tree-returns-then-is
+type_tree-returns-then-is t c =
     record {
       names = λ u Δ h D. by (type_leaf _ _ (is_leaf h c.in-Leaf.is)) (then_way c.if-is.ensures (ends (c.used.ensures Δ D)));
       keeps = yes_ok (keeps_all c.requires.free);
     }
 
-pub type-tree-returns-else-is : goal.type-tree-returns-else-is
-type-tree-returns-else-is t c =
+pub type_tree-returns-else-is : goal.type_tree-returns-else-is
+type_tree-returns-else-is t c =
     record {
       names = λ u Δ h D. by (type_leaf _ _ (is_leaf h c.in-Leaf.is)) (else_way c.if-is.ensures nothing);
       keeps = yes_ok (keeps_all c.requires.free);
     }
 
-pub type-tree-fields-requires : goal.type-tree-fields-requires
-type-tree-fields-requires t c =
+pub type_tree-fields-requires : goal.type_tree-fields-requires
+type_tree-fields-requires t c =
     let p = fit_part c.requires.tree c.in-Under.is in
     (omega arith, (p.within, (p.tree, (c.requires.ordered, (c.requires.below, (omega arith, c.requires.free))))))
 
-pub type-tree-type-tree-requires : goal.type-tree-type-tree-requires
-type-tree-type-tree-requires t c =
+pub type_tree-type_tree-requires : goal.type_tree-type_tree-requires
+type_tree-type_tree-requires t c =
     let p = fit_left c.requires.tree c.in-Join.is in
     (omega arith, (p.within, (p.tree, (c.requires.ordered, (c.requires.below, c.requires.free)))))
 
-pub type-tree-returns-in-Blank : goal.type-tree-returns-in-Blank
-type-tree-returns-in-Blank t c = absurd (no_blank c.requires.tree.shown c.in-Blank.is)
+pub type_tree-returns-in-Blank : goal.type_tree-returns-in-Blank
+type_tree-returns-in-Blank t c = absurd (no_blank c.requires.tree.shown c.in-Blank.is)
 
-pub type-tree-returns-in-Under : goal.type-tree-returns-in-Under
-type-tree-returns-in-Under t c =
+pub type_tree-returns-in-Under : goal.type_tree-returns-in-Under
+type_tree-returns-in-Under t c =
     record {
       names = λ u Δ h D.
           let j = is_under h c.in-Under.is in
@@ -142,9 +142,9 @@ type-tree-returns-in-Under t c =
       keeps = with_ok c.fields.ensures.after (λ q. q.grown.keeps);
     }
 
-pub type-tree-returns-in-Join : goal.type-tree-returns-in-Join
-type-tree-returns-in-Join t c =
+pub type_tree-returns-in-Join : goal.type_tree-returns-in-Join
+type_tree-returns-in-Join t c =
     record {
-      names = λ u Δ h D. let j = is_join h c.in-Join.is in by (type_join _ _ _ _ j.whole) (ends (c.type-tree.ensures.names _ Δ j.left_shown D));
-      keeps = c.type-tree.ensures.keeps;
+      names = λ u Δ h D. let j = is_join h c.in-Join.is in by (type_join _ _ _ _ j.whole) (ends (c.type_tree.ensures.names _ Δ j.left_shown D));
+      keeps = c.type_tree.ensures.keeps;
     }

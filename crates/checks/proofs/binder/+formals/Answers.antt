@@ -31,15 +31,15 @@ returns-then-is t c =
           });
     }
 
-pub formal-type-its-type-requires : goal.formal-type-its-type-requires
-formal-type-its-type-requires t c =
+pub formal_type-its_type-requires : goal.formal_type-its_type-requires
+formal_type-its_type-requires t c =
     let p = fit_part c.requires.tree c.in-Under.is in
     record { within = p.within; tree = fit_rooted p.tree }
 
-pub type-tree-requires : goal.type-tree-requires
-type-tree-requires t c =
+pub type_tree-requires : goal.type_tree-requires
+type_tree-requires t c =
     let p = fit_part c.requires.tree c.in-Under.is in
-    let q = fit_led c.formal-type-its-type.result (λ x. cond (by_reference x) (part_of x) x) p.tree c.formal-type-its-type.ensures.leads formal_less in
+    let q = fit_led c.formal_type-its_type.result (λ x. cond (by_reference x) (part_of x) x) p.tree c.formal_type-its_type.ensures.leads formal_less in
     record { within = fit_within q; tree = q; ordered = c.requires.ordered; below = omega arith; free = c.requires.free }
 
 pub returns-in-err-type-tree : goal.returns-in-err-type-tree
@@ -47,8 +47,8 @@ returns-in-err-type-tree t c =
     record {
       names = λ u Δ h D.
           let j = is_under h c.in-Under.is in
-          by (formals_under _ _ _ j.whole) (else_way c.if-is.ensures (stops _ c.from-residual.ensures.1 (c.in-err-type-tree.ensures.names _ Δ (c.formal-type-its-type.ensures.leads _ _ j.shown) D)));
-      after = not_ok _ c.from-residual.ensures.0;
+          by (formals_under _ _ _ j.whole) (else_way c.if-is.ensures (stops _ c.from_residual.ensures.1 (c.in-err-type-tree.ensures.names _ Δ (c.formal_type-its_type.ensures.leads _ _ j.shown) D)));
+      after = not_ok _ c.from_residual.ensures.0;
     }
 
 pub declare-requires : goal.declare-requires
@@ -97,7 +97,7 @@ returns-in-ok-type-tree t c =
     record {
       names = λ u Δ h D.
           let j = is_under h c.in-Under.is in
-          by (formals_under _ _ _ j.whole) (else_way c.if-is.ensures (passes (c.in-ok-type-tree.ensures.names _ Δ (c.formal-type-its-type.ensures.leads _ _ j.shown) D) (ends (c.declare.ensures.twice _ (declares_kept k c.requires.ordered (omega arith) D).inner))));
+          by (formals_under _ _ _ j.whole) (else_way c.if-is.ensures (passes (c.in-ok-type-tree.ensures.names _ Δ (c.formal_type-its_type.ensures.leads _ _ j.shown) D) (ends (c.declare.ensures.twice _ (declares_kept k c.requires.ordered (omega arith) D).inner))));
       after = with_ok c.declare.ensures.named (λ n.
           record {
             grown = grown_behind k (grown_named n);

@@ -10,7 +10,7 @@ use Rattle.checks.proofs.depth.+block_branches_declarations_statements.Goals as 
 pub block-returns-in-err-node : goal.block-returns-in-err-node
 block-returns-in-err-node t c = λ s u h.
     let j = is_under h c.in-Under.is in
-    by (block_under _ _ _ _ j.whole) (stops _ c.from-residual.ensures.1 c.in-err-node.ensures)
+    by (block_under _ _ _ _ j.whole) (stops _ c.from_residual.ensures.1 c.in-err-node.ensures)
 
 pub block-declarations-requires : goal.block-declarations-requires
 block-declarations-requires t c =
@@ -51,7 +51,7 @@ branches-block-requires-in-Join t c =
 pub branches-returns-in-err-block : goal.branches-returns-in-err-block
 branches-returns-in-err-block t c = λ s u h.
     let j = is_join h c.in-Join.is in
-    by (branches_join _ _ _ _ _ j.whole) (stops _ c.from-residual.ensures.1 (c.in-err-block.ensures s _ j.left_shown))
+    by (branches_join _ _ _ _ _ j.whole) (stops _ c.from_residual.ensures.1 (c.in-err-block.ensures s _ j.left_shown))
 
 pub branches-block-requires-in-Join-2 : goal.branches-block-requires-in-Join-2
 branches-block-requires-in-Join-2 t c =
@@ -84,41 +84,41 @@ declarations-returns-then-is t c = λ s u h.
     let j = is_under h c.in-Under.is in
     by (declarations_under _ _ _ _ j.whole) (then_way c.if-is.ensures (ends (c.declarations.ensures s _ j.shown)))
 
-pub declarations-part-of-its-type-requires : goal.declarations-part-of-its-type-requires
-declarations-part-of-its-type-requires t c =
+pub declarations-part_of-its_type-requires : goal.declarations-part_of-its_type-requires
+declarations-part_of-its_type-requires t c =
     let p = below_part c.requires.tree c.in-Under.is in
     record { within = p.within; tree = p.rooted }
 
-pub declarations-overflow-add-depth : goal.declarations-overflow-add-depth
-declarations-overflow-add-depth t c = let p = below_part c.requires.tree c.in-Under.is in search rules
+pub declarations-overflow_add-depth : goal.declarations-overflow_add-depth
+declarations-overflow_add-depth t c = let p = below_part c.requires.tree c.in-Under.is in search rules
 
-pub declarations-type-tree-requires : goal.declarations-type-tree-requires
-declarations-type-tree-requires t c =
+pub declarations-type_tree-requires : goal.declarations-type_tree-requires
+declarations-type_tree-requires t c =
     let p = below_part c.requires.tree c.in-Under.is in
-    let q = led c.part-of-its-type.result part_of p.rooted c.part-of-its-type.ensures.leads in
-    let b = c.part-of-its-type.ensures.before in
+    let q = led c.part_of-its_type.result part_of p.rooted c.part_of-its_type.ensures.leads in
+    let b = c.part_of-its_type.ensures.before in
     record { within = rooted_within q; tree = q; room = omega arith }
 
 pub declarations-returns-in-err-type-tree : goal.declarations-returns-in-err-type-tree
 declarations-returns-in-err-type-tree t c = λ s u h.
     let j = is_under h c.in-Under.is in
-    by (declarations_under _ _ _ _ j.whole) (else_way c.if-is.ensures (then_way c.if-is-2.ensures (stops _ c.from-residual.ensures.1 (c.in-err-type-tree.ensures s _ (c.part-of-its-type.ensures.leads s _ j.shown)))))
+    by (declarations_under _ _ _ _ j.whole) (else_way c.if-is.ensures (then_way c.if-is-2.ensures (stops _ c.from_residual.ensures.1 (c.in-err-type-tree.ensures s _ (c.part_of-its_type.ensures.leads s _ j.shown)))))
 
-pub declarations-token-at-requires : goal.declarations-token-at-requires
-declarations-token-at-requires t c =
+pub declarations-token_at-requires : goal.declarations-token_at-requires
+declarations-token_at-requires t c =
     let p = below_part c.requires.tree c.in-Under.is in
     record { within = p.within; tree = p.rooted }
 
 pub declarations-returns-then-is-2 : goal.declarations-returns-then-is-2
 declarations-returns-then-is-2 t c = λ s u h.
     let j = is_under h c.in-Under.is in
-    by (declarations_under _ _ _ _ j.whole) (else_way c.if-is.ensures (then_way c.if-is-2.ensures (passes (c.in-ok-type-tree.ensures s _ (c.part-of-its-type.ensures.leads s _ j.shown)) (ends (at_place (deeper 96 c.args.depth) (ap (λ x. x.place) (c.token-at.ensures s _ j.shown)) c.node.ensures)))))
+    by (declarations_under _ _ _ _ j.whole) (else_way c.if-is.ensures (then_way c.if-is-2.ensures (passes (c.in-ok-type-tree.ensures s _ (c.part_of-its_type.ensures.leads s _ j.shown)) (ends (at_place (deeper 96 c.args.depth) (ap (λ x. x.place) (c.token_at.ensures s _ j.shown)) c.node.ensures)))))
 
-pub declarations-overflow-add-depth-then-is-3 : goal.declarations-overflow-add-depth-then-is-3
-declarations-overflow-add-depth-then-is-3 t c = let p = below_part c.requires.tree c.in-Under.is in search rules
+pub declarations-overflow_add-depth-then-is-3 : goal.declarations-overflow_add-depth-then-is-3
+declarations-overflow_add-depth-then-is-3 t c = let p = below_part c.requires.tree c.in-Under.is in search rules
 
-pub declarations-type-tree-requires-then-is-3 : goal.declarations-type-tree-requires-then-is-3
-declarations-type-tree-requires-then-is-3 t c =
+pub declarations-type_tree-requires-then-is-3 : goal.declarations-type_tree-requires-then-is-3
+declarations-type_tree-requires-then-is-3 t c =
     let p = below_part c.requires.tree c.in-Under.is in
     record { within = p.within; tree = p.rooted; room = omega arith }
 
@@ -162,32 +162,32 @@ declarations-returns-then-is-5 t c = λ s u h.
     let j = is_join h c.in-Join.is in
     by (declarations_join _ _ _ _ _ j.whole) (else_way c.if-is-4.ensures (then_way c.if-is-5.ensures (passes (c.in-ok-declarations.ensures s _ j.left_shown) (ends (c.declarations-then-is-5-2.ensures s _ j.right_shown)))))
 
-pub declarations-token-at-requires-then-is-6 : goal.declarations-token-at-requires-then-is-6
-declarations-token-at-requires-then-is-6 t c =
+pub declarations-token_at-requires-then-is-6 : goal.declarations-token_at-requires-then-is-6
+declarations-token_at-requires-then-is-6 t c =
     let p = below_left c.requires.tree c.in-Join.is in
     record { within = p.within; tree = p.rooted }
 
 pub declarations-returns-in-err-procedure : goal.declarations-returns-in-err-procedure
 declarations-returns-in-err-procedure t c = λ s u h.
     let j = is_join h c.in-Join.is in
-    by (declarations_join _ _ _ _ _ j.whole) (else_way c.if-is-4.ensures (else_way c.if-is-5.ensures (then_way c.if-is-6.ensures (stops _ c.from-residual-in-err-procedure.ensures.1 (at_place (λ p. cond (ltb 96 c.args.depth) (break 7 p) (deeper 8 (c.args.level + 1) p)) (ap (λ x. x.place) (c.token-at-then-is-6.ensures s _ j.left_shown)) c.in-err-procedure.ensures)))))
+    by (declarations_join _ _ _ _ _ j.whole) (else_way c.if-is-4.ensures (else_way c.if-is-5.ensures (then_way c.if-is-6.ensures (stops _ c.from-residual-in-err-procedure.ensures.1 (at_place (λ p. cond (ltb 96 c.args.depth) (break 7 p) (deeper 8 (c.args.level + 1) p)) (ap (λ x. x.place) (c.token_at-then-is-6.ensures s _ j.left_shown)) c.in-err-procedure.ensures)))))
 
-pub declarations-part-of-its-formals-requires : goal.declarations-part-of-its-formals-requires
-declarations-part-of-its-formals-requires t c =
+pub declarations-part_of-its_formals-requires : goal.declarations-part_of-its_formals-requires
+declarations-part_of-its_formals-requires t c =
     let p = below_left c.requires.tree c.in-Join.is in
     record { within = p.within; tree = p.rooted }
 
 pub declarations-formals-requires : goal.declarations-formals-requires
 declarations-formals-requires t c =
     let p = below_left c.requires.tree c.in-Join.is in
-    let q = led c.part-of-its-formals.result part_of p.rooted c.part-of-its-formals.ensures.leads in
-    let b = c.part-of-its-formals.ensures.before in
+    let q = led c.part_of-its_formals.result part_of p.rooted c.part_of-its_formals.ensures.leads in
+    let b = c.part_of-its_formals.ensures.before in
     record { within = rooted_within q; tree = q; room = omega arith }
 
 pub declarations-returns-in-err-formals : goal.declarations-returns-in-err-formals
 declarations-returns-in-err-formals t c = λ s u h.
     let j = is_join h c.in-Join.is in
-    by (declarations_join _ _ _ _ _ j.whole) (else_way c.if-is-4.ensures (else_way c.if-is-5.ensures (then_way c.if-is-6.ensures (passes (at_place (λ p. cond (ltb 96 c.args.depth) (break 7 p) (deeper 8 (c.args.level + 1) p)) (ap (λ x. x.place) (c.token-at-then-is-6.ensures s _ j.left_shown)) c.in-ok-procedure.ensures) (stops _ c.from-residual-in-err-formals.ensures.1 (c.in-err-formals.ensures s _ (c.part-of-its-formals.ensures.leads s _ j.left_shown)))))))
+    by (declarations_join _ _ _ _ _ j.whole) (else_way c.if-is-4.ensures (else_way c.if-is-5.ensures (then_way c.if-is-6.ensures (passes (at_place (λ p. cond (ltb 96 c.args.depth) (break 7 p) (deeper 8 (c.args.level + 1) p)) (ap (λ x. x.place) (c.token_at-then-is-6.ensures s _ j.left_shown)) c.in-ok-procedure.ensures) (stops _ c.from-residual-in-err-formals.ensures.1 (c.in-err-formals.ensures s _ (c.part_of-its_formals.ensures.leads s _ j.left_shown)))))))
 
 pub declarations-block-requires : goal.declarations-block-requires
 declarations-block-requires t c =
@@ -197,7 +197,7 @@ declarations-block-requires t c =
 pub declarations-returns-then-is-6 : goal.declarations-returns-then-is-6
 declarations-returns-then-is-6 t c = λ s u h.
     let j = is_join h c.in-Join.is in
-    by (declarations_join _ _ _ _ _ j.whole) (else_way c.if-is-4.ensures (else_way c.if-is-5.ensures (then_way c.if-is-6.ensures (passes (at_place (λ p. cond (ltb 96 c.args.depth) (break 7 p) (deeper 8 (c.args.level + 1) p)) (ap (λ x. x.place) (c.token-at-then-is-6.ensures s _ j.left_shown)) c.in-ok-procedure.ensures) (passes (c.in-ok-formals.ensures s _ (c.part-of-its-formals.ensures.leads s _ j.left_shown)) (ends (c.block.ensures s _ j.right_shown)))))))
+    by (declarations_join _ _ _ _ _ j.whole) (else_way c.if-is-4.ensures (else_way c.if-is-5.ensures (then_way c.if-is-6.ensures (passes (at_place (λ p. cond (ltb 96 c.args.depth) (break 7 p) (deeper 8 (c.args.level + 1) p)) (ap (λ x. x.place) (c.token_at-then-is-6.ensures s _ j.left_shown)) c.in-ok-procedure.ensures) (passes (c.in-ok-formals.ensures s _ (c.part_of-its_formals.ensures.leads s _ j.left_shown)) (ends (c.block.ensures s _ j.right_shown)))))))
 
 pub declarations-returns-in-Blank : goal.declarations-returns-in-Blank
 declarations-returns-in-Blank t c = λ s u h. absurd (no_blank h c.in-Blank.is)
@@ -223,17 +223,17 @@ statements-returns-then-is t c = λ s u h.
 pub statements-returns-in-err-node : goal.statements-returns-in-err-node
 statements-returns-in-err-node t c = λ s u h.
     let j = is_under h c.in-Under.is in
-    by (statements_under _ _ _ _ j.whole) (else_way c.if-is.ensures (then_way c.if-takes-expression.ensures (stops _ c.from-residual.ensures.1 c.in-err-node.ensures)))
+    by (statements_under _ _ _ _ j.whole) (else_way c.if-is.ensures (then_way c.if-takes_expression.ensures (stops _ c.from_residual.ensures.1 c.in-err-node.ensures)))
 
 pub statements-expression-requires : goal.statements-expression-requires
 statements-expression-requires t c =
     let p = below_part c.requires.tree c.in-Under.is in
     record { within = p.within; tree = p.rooted; room = omega arith }
 
-pub statements-returns-then-takes-expression : goal.statements-returns-then-takes-expression
-statements-returns-then-takes-expression t c = λ s u h.
+pub statements-returns-then-takes_expression : goal.statements-returns-then-takes_expression
+statements-returns-then-takes_expression t c = λ s u h.
     let j = is_under h c.in-Under.is in
-    by (statements_under _ _ _ _ j.whole) (else_way c.if-is.ensures (then_way c.if-takes-expression.ensures (passes c.in-ok-node.ensures (ends (c.expression.ensures s _ j.shown)))))
+    by (statements_under _ _ _ _ j.whole) (else_way c.if-is.ensures (then_way c.if-takes_expression.ensures (passes c.in-ok-node.ensures (ends (c.expression.ensures s _ j.shown)))))
 
 pub statements-statements-requires : goal.statements-statements-requires
 statements-statements-requires t c =
@@ -310,15 +310,15 @@ statements-returns-then-is-5 t c = λ s u h.
     let j = is_join h c.in-Join.is in
     by (statements_join _ _ _ _ _ j.whole) (else_way c.if-is-2.ensures (else_way c.if-is-3.ensures (passes c.in-ok-node-2.ensures (else_way c.if-is-4.ensures (then_way c.if-is-5.ensures (passes (c.in-ok-expression-2.ensures s _ j.left_shown) (ends (c.block-then-is-5.ensures s _ j.right_shown))))))))
 
-pub statements-token-at-requires : goal.statements-token-at-requires
-statements-token-at-requires t c =
+pub statements-token_at-requires : goal.statements-token_at-requires
+statements-token_at-requires t c =
     let p = below_left c.requires.tree c.in-Join.is in
     record { within = p.within; tree = p.rooted }
 
 pub statements-returns-in-err-node-3 : goal.statements-returns-in-err-node-3
 statements-returns-in-err-node-3 t c = λ s u h.
     let j = is_join h c.in-Join.is in
-    by (statements_join _ _ _ _ _ j.whole) (else_way c.if-is-2.ensures (else_way c.if-is-3.ensures (passes c.in-ok-node-2.ensures (else_way c.if-is-4.ensures (else_way c.if-is-5.ensures (stops _ c.from-residual-in-err-node-3.ensures.1 (at_place (deeper 96 (c.args.depth + 1)) (ap (λ x. x.place) (c.token-at.ensures s _ j.left_shown)) c.in-err-node-3.ensures)))))))
+    by (statements_join _ _ _ _ _ j.whole) (else_way c.if-is-2.ensures (else_way c.if-is-3.ensures (passes c.in-ok-node-2.ensures (else_way c.if-is-4.ensures (else_way c.if-is-5.ensures (stops _ c.from-residual-in-err-node-3.ensures.1 (at_place (deeper 96 (c.args.depth + 1)) (ap (λ x. x.place) (c.token_at.ensures s _ j.left_shown)) c.in-err-node-3.ensures)))))))
 
 pub statements-arguments-requires : goal.statements-arguments-requires
 statements-arguments-requires t c =
@@ -331,12 +331,12 @@ statements-returns-in-Blank t c = λ s u h. absurd (no_blank h c.in-Blank.is)
 pub statements-returns-in-Leaf : goal.statements-returns-in-Leaf
 statements-returns-in-Leaf t c = λ s u h. by (statements_leaf _ _ _ (is_leaf h c.in-Leaf.is)) (ends c.node.ensures)
 
-pub statements-returns-else-takes-expression : goal.statements-returns-else-takes-expression
-statements-returns-else-takes-expression t c = λ s u h.
+pub statements-returns-else-takes_expression : goal.statements-returns-else-takes_expression
+statements-returns-else-takes_expression t c = λ s u h.
     let j = is_under h c.in-Under.is in
-    by (statements_under _ _ _ _ j.whole) (else_way c.if-is.ensures (else_way c.if-takes-expression.ensures (ends (c.block.ensures s _ h))))
+    by (statements_under _ _ _ _ j.whole) (else_way c.if-is.ensures (else_way c.if-takes_expression.ensures (ends (c.block.ensures s _ h))))
 
 pub statements-returns-in-ok-node-3 : goal.statements-returns-in-ok-node-3
 statements-returns-in-ok-node-3 t c = λ s u h.
     let j = is_join h c.in-Join.is in
-    by (statements_join _ _ _ _ _ j.whole) (else_way c.if-is-2.ensures (else_way c.if-is-3.ensures (passes c.in-ok-node-2.ensures (else_way c.if-is-4.ensures (else_way c.if-is-5.ensures (passes (at_place (deeper 96 (c.args.depth + 1)) (ap (λ x. x.place) (c.token-at.ensures s _ j.left_shown)) c.in-ok-node-3.ensures) (ends (c.arguments.ensures s _ j.right_shown))))))))
+    by (statements_join _ _ _ _ _ j.whole) (else_way c.if-is-2.ensures (else_way c.if-is-3.ensures (passes c.in-ok-node-2.ensures (else_way c.if-is-4.ensures (else_way c.if-is-5.ensures (passes (at_place (deeper 96 (c.args.depth + 1)) (ap (λ x. x.place) (c.token_at.ensures s _ j.left_shown)) c.in-ok-node-3.ensures) (ends (c.arguments.ensures s _ j.right_shown))))))))

@@ -8,15 +8,15 @@ use Rattle.checks.proofs.depth.+expression.Goals as goal
 pub returns-in-err-node : goal.returns-in-err-node
 returns-in-err-node t c = λ s u h.
     let j = is_under h c.in-Under.is in
-    by (deep_under _ _ _ j.whole) (stops _ c.from-residual.ensures.1 c.in-err-node.ensures)
+    by (deep_under _ _ _ j.whole) (stops _ c.from_residual.ensures.1 c.in-err-node.ensures)
 
 pub expression-requires : goal.expression-requires
 expression-requires t c =
     let p = below_part c.requires.tree c.in-Under.is in
     (omega arith, (p.within, (p.rooted, omega arith)))
 
-pub overflow-add-depth-in-Join : goal.overflow-add-depth-in-Join
-overflow-add-depth-in-Join t c = let p = below_left c.requires.tree c.in-Join.is in search rules
+pub overflow_add-depth-in-Join : goal.overflow_add-depth-in-Join
+overflow_add-depth-in-Join t c = let p = below_left c.requires.tree c.in-Join.is in search rules
 
 pub expression-requires-in-Join : goal.expression-requires-in-Join
 expression-requires-in-Join t c =

@@ -13,7 +13,7 @@ expression-requires-then-is t c =
 pub returns-in-err-expression : goal.returns-in-err-expression
 returns-in-err-expression t c = λ s u h.
     let j = is_join h c.in-Join.is in
-    by (all_join _ _ _ _ j.whole) (then_way c.if-is.ensures (stops _ c.from-residual.ensures.1 (c.in-err-expression.ensures s _ j.left_shown)))
+    by (all_join _ _ _ _ j.whole) (then_way c.if-is.ensures (stops _ c.from_residual.ensures.1 (c.in-err-expression.ensures s _ j.left_shown)))
 
 pub expressions-requires : goal.expressions-requires
 expressions-requires t c =

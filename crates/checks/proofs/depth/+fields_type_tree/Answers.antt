@@ -5,18 +5,18 @@ use Rattle.checks.proofs.Steps.{nothing, ends, passes, stops, by}
 use Rattle.checks.proofs.Ready.{below_part, below_left, below_right}
 use Rattle.checks.proofs.depth.+fields_type_tree.Goals as goal
 
-pub fields-overflow-add-depth : goal.fields-overflow-add-depth
-fields-overflow-add-depth t c = let p = below_part c.requires.tree c.in-Under.is in search rules
+pub fields-overflow_add-depth : goal.fields-overflow_add-depth
+fields-overflow_add-depth t c = let p = below_part c.requires.tree c.in-Under.is in search rules
 
-pub fields-type-tree-requires : goal.fields-type-tree-requires
-fields-type-tree-requires t c =
+pub fields-type_tree-requires : goal.fields-type_tree-requires
+fields-type_tree-requires t c =
     let p = below_part c.requires.tree c.in-Under.is in
     (omega arith, (p.within, (p.rooted, omega arith)))
 
 pub fields-returns-in-err-type-tree : goal.fields-returns-in-err-type-tree
 fields-returns-in-err-type-tree t c = λ s u h.
     let j = is_under h c.in-Under.is in
-    by (fields_under _ _ _ j.whole) (stops _ c.from-residual.ensures.1 (c.in-err-type-tree.ensures s _ j.shown))
+    by (fields_under _ _ _ j.whole) (stops _ c.from_residual.ensures.1 (c.in-err-type-tree.ensures s _ j.shown))
 
 pub fields-fields-requires : goal.fields-fields-requires
 fields-fields-requires t c =
@@ -52,18 +52,18 @@ fields-returns-in-ok-fields t c = λ s u h.
 pub type-tree-returns-in-err-node : goal.type-tree-returns-in-err-node
 type-tree-returns-in-err-node t c = λ s u h.
     let j = is_under h c.in-Under.is in
-    by (type_under _ _ _ j.whole) (stops _ c.from-residual.ensures.1 c.in-err-node.ensures)
+    by (type_under _ _ _ j.whole) (stops _ c.from_residual.ensures.1 c.in-err-node.ensures)
 
-pub type-tree-fields-requires : goal.type-tree-fields-requires
-type-tree-fields-requires t c =
+pub type_tree-fields-requires : goal.type_tree-fields-requires
+type_tree-fields-requires t c =
     let p = below_part c.requires.tree c.in-Under.is in
     (omega arith, (p.within, (p.rooted, omega arith)))
 
-pub type-tree-overflow-add-depth-in-Join : goal.type-tree-overflow-add-depth-in-Join
-type-tree-overflow-add-depth-in-Join t c = let p = below_left c.requires.tree c.in-Join.is in search rules
+pub type_tree-overflow_add-depth-in-Join : goal.type_tree-overflow_add-depth-in-Join
+type_tree-overflow_add-depth-in-Join t c = let p = below_left c.requires.tree c.in-Join.is in search rules
 
-pub type-tree-type-tree-requires : goal.type-tree-type-tree-requires
-type-tree-type-tree-requires t c =
+pub type_tree-type_tree-requires : goal.type_tree-type_tree-requires
+type_tree-type_tree-requires t c =
     let p = below_left c.requires.tree c.in-Join.is in
     (omega arith, (p.within, (p.rooted, omega arith)))
 
@@ -72,11 +72,11 @@ type-tree-returns-in-err-type-tree t c = λ s u h.
     let j = is_join h c.in-Join.is in
     by (type_join _ _ _ _ j.whole) (stops _ c.from-residual-in-err-type-tree.ensures.1 (c.in-err-type-tree.ensures s _ j.left_shown))
 
-pub type-tree-returns-in-Blank : goal.type-tree-returns-in-Blank
-type-tree-returns-in-Blank t c = λ s u h. absurd (no_blank h c.in-Blank.is)
+pub type_tree-returns-in-Blank : goal.type_tree-returns-in-Blank
+type_tree-returns-in-Blank t c = λ s u h. absurd (no_blank h c.in-Blank.is)
 
-pub type-tree-returns-in-Leaf : goal.type-tree-returns-in-Leaf
-type-tree-returns-in-Leaf t c = λ s u h. by (type_leaf _ _ (is_leaf h c.in-Leaf.is)) (ends c.node.ensures)
+pub type_tree-returns-in-Leaf : goal.type_tree-returns-in-Leaf
+type_tree-returns-in-Leaf t c = λ s u h. by (type_leaf _ _ (is_leaf h c.in-Leaf.is)) (ends c.node.ensures)
 
 pub type-tree-returns-in-ok-node : goal.type-tree-returns-in-ok-node
 type-tree-returns-in-ok-node t c = λ s u h.

@@ -16,25 +16,25 @@ returns-then-is t c = λ s u h.
     let j = is_under h c.in-Under.is in
     by (formals_under _ _ _ j.whole) (then_way c.if-is.ensures (ends (c.formals.ensures s _ j.shown)))
 
-pub formal-type-its-type-requires : goal.formal-type-its-type-requires
-formal-type-its-type-requires t c =
+pub formal_type-its_type-requires : goal.formal_type-its_type-requires
+formal_type-its_type-requires t c =
     let p = below_part c.requires.tree c.in-Under.is in
     record { within = p.within; tree = p.rooted }
 
-pub overflow-add-depth : goal.overflow-add-depth
-overflow-add-depth t c = let p = below_part c.requires.tree c.in-Under.is in search rules
+pub overflow_add-depth : goal.overflow_add-depth
+overflow_add-depth t c = let p = below_part c.requires.tree c.in-Under.is in search rules
 
-pub type-tree-requires : goal.type-tree-requires
-type-tree-requires t c =
+pub type_tree-requires : goal.type_tree-requires
+type_tree-requires t c =
     let p = below_part c.requires.tree c.in-Under.is in
-    let q = led c.formal-type-its-type.result (λ x. cond (by_reference x) (part_of x) x) p.rooted c.formal-type-its-type.ensures.leads in
-    let b = c.formal-type-its-type.ensures.before in
+    let q = led c.formal_type-its_type.result (λ x. cond (by_reference x) (part_of x) x) p.rooted c.formal_type-its_type.ensures.leads in
+    let b = c.formal_type-its_type.ensures.before in
     record { within = rooted_within q; tree = q; room = omega arith }
 
 pub returns-in-err-type-tree : goal.returns-in-err-type-tree
 returns-in-err-type-tree t c = λ s u h.
     let j = is_under h c.in-Under.is in
-    by (formals_under _ _ _ j.whole) (else_way c.if-is.ensures (stops _ c.from-residual.ensures.1 (c.in-err-type-tree.ensures s _ (c.formal-type-its-type.ensures.leads s _ j.shown))))
+    by (formals_under _ _ _ j.whole) (else_way c.if-is.ensures (stops _ c.from_residual.ensures.1 (c.in-err-type-tree.ensures s _ (c.formal_type-its_type.ensures.leads s _ j.shown))))
 
 pub formals-requires-in-Join : goal.formals-requires-in-Join
 formals-requires-in-Join t c =
@@ -60,7 +60,7 @@ returns-in-Leaf t c = λ s u h. by (formals_leaf _ _ (is_leaf h c.in-Leaf.is)) (
 pub returns-in-ok-type-tree : goal.returns-in-ok-type-tree
 returns-in-ok-type-tree t c = λ s u h.
     let j = is_under h c.in-Under.is in
-    by (formals_under _ _ _ j.whole) (else_way c.if-is.ensures (passes (c.in-ok-type-tree.ensures s _ (c.formal-type-its-type.ensures.leads s _ j.shown)) (ends c.node.ensures)))
+    by (formals_under _ _ _ j.whole) (else_way c.if-is.ensures (passes (c.in-ok-type-tree.ensures s _ (c.formal_type-its_type.ensures.leads s _ j.shown)) (ends c.node.ensures)))
 
 pub returns-in-ok-formals : goal.returns-in-ok-formals
 returns-in-ok-formals t c = λ s u h.
