@@ -20,17 +20,17 @@ block-declarations-requires t c =
     let j = is_under c.requires.tree.shown c.in-Under.is in
     (omega arith, (fit_within p, (p, (omega arith, c.requires.free))))
 
-pub block-returns-in-err-declarations : goal.block-returns-in-err-declarations
-block-returns-in-err-declarations t c =
+pub block-returns-in_err-declarations-in-Under : goal.block-returns-in_err-declarations-in-Under
+block-returns-in_err-declarations-in-Under t c =
     record {
-      names = λ u Δ h D. let j = is_under h c.in-Under.is in by (block_under _ _ _ j.whole) (stops _ c.from_residual.ensures.1 (c.in-err-declarations.ensures.names _ _ j.shown (enter {s = c.args.scope.now} _ refl refl D)));
+      names = λ u Δ h D. let j = is_under h c.in-Under.is in by (block_under _ _ _ j.whole) (stops _ c.from_residual.ensures.1 (c.in_err-declarations-in-Under.ensures.names _ _ j.shown (enter {s = c.args.scope.now} _ refl refl D)));
       scope = c.drop-inner.ensures;
       keeps = not_ok _ c.from_residual.ensures.0;
     }
 
 pub block-statements-requires : goal.block-statements-requires
 block-statements-requires t c =
-    let g = c.in-ok-declarations.ensures.after.then _ refl in
+    let g = c.in_ok-declarations-in-Under.ensures.after.then _ refl in
     let p = block_part c.requires.tree c.in-Under.is in
     let q = block_behind c.declarations.new.scope.top g.grown.keeps.room c.requires.tree c.in-Under.is g.few in
     let j = is_under c.requires.tree.shown c.in-Under.is in
@@ -48,11 +48,11 @@ block-returns-in-Leaf t c =
       keeps = yes_ok (keeps_all c.requires.free);
     }
 
-pub block-returns-in-ok-declarations : goal.block-returns-in-ok-declarations
-block-returns-in-ok-declarations t c =
-    let g = c.in-ok-declarations.ensures.after.then _ refl in
+pub block-returns-in_ok-declarations-in-Under : goal.block-returns-in_ok-declarations-in-Under
+block-returns-in_ok-declarations-in-Under t c =
+    let g = c.in_ok-declarations-in-Under.ensures.after.then _ refl in
     record {
-      names = λ u Δ h D. let j = is_under h c.in-Under.is in by (block_under _ _ _ j.whole) (passes (c.in-ok-declarations.ensures.names _ _ j.shown (enter {s = c.args.scope.now} _ refl refl D)) (ends (c.statements.ensures.names _ _ j.shown (g.declares _ _ j.shown (enter {s = c.args.scope.now} _ refl refl D)))));
+      names = λ u Δ h D. let j = is_under h c.in-Under.is in by (block_under _ _ _ j.whole) (passes (c.in_ok-declarations-in-Under.ensures.names _ _ j.shown (enter {s = c.args.scope.now} _ refl refl D)) (ends (c.statements.ensures.names _ _ j.shown (g.declares _ _ j.shown (enter {s = c.args.scope.now} _ refl refl D)))));
       scope = c.drop-inner-in-Under.ensures;
       keeps = with_ok c.statements.ensures.keeps (λ k. keeps_both g.grown.keeps k g.grown.more);
     }
@@ -79,18 +79,18 @@ branches-block-requires-in-Join t c =
     let j = is_join c.requires.tree.shown c.in-Join.is in
     (omega arith, (fit_within p, (p, (c.requires.ordered, c.requires.free))))
 
-pub branches-returns-in-err-block : goal.branches-returns-in-err-block
-branches-returns-in-err-block t c =
+pub branches-returns-in_err-block-in-Join : goal.branches-returns-in_err-block-in-Join
+branches-returns-in_err-block-in-Join t c =
     record {
-      names = λ u Δ h D. let j = is_join h c.in-Join.is in by (branches_join _ _ _ _ j.whole) (stops _ c.from_residual.ensures.1 (c.in-err-block.ensures.names _ Δ j.left_shown D));
-      scope = c.in-err-block.ensures.scope;
+      names = λ u Δ h D. let j = is_join h c.in-Join.is in by (branches_join _ _ _ _ j.whole) (stops _ c.from_residual.ensures.1 (c.in_err-block-in-Join.ensures.names _ Δ j.left_shown D));
+      scope = c.in_err-block-in-Join.ensures.scope;
       keeps = not_ok _ c.from_residual.ensures.0;
     }
 
 pub branches-block-requires-in-Join-2 : goal.branches-block-requires-in-Join-2
 branches-block-requires-in-Join-2 t c =
-    let s = c.in-ok-block.ensures.scope in
-    let k = c.in-ok-block.ensures.keeps.then _ refl in
+    let s = c.in_ok-block-in-Join.ensures.scope in
+    let k = c.in_ok-block-in-Join.ensures.keeps.then _ refl in
     let e = ap (λ z. z.top) s in
     let f = ap (λ z. z.start) s in
     let w = k.within in
@@ -118,12 +118,12 @@ branches-returns-in-Under t c =
       keeps = c.block-in-Under.ensures.keeps;
     }
 
-pub branches-returns-in-ok-block : goal.branches-returns-in-ok-block
-branches-returns-in-ok-block t c =
-    let s = c.in-ok-block.ensures.scope in
-    let k = c.in-ok-block.ensures.keeps.then _ refl in
+pub branches-returns-in_ok-block-in-Join : goal.branches-returns-in_ok-block-in-Join
+branches-returns-in_ok-block-in-Join t c =
+    let s = c.in_ok-block-in-Join.ensures.scope in
+    let k = c.in_ok-block-in-Join.ensures.keeps.then _ refl in
     record {
-      names = λ u Δ h D. let j = is_join h c.in-Join.is in by (branches_join _ _ _ _ j.whole) (passes (c.in-ok-block.ensures.names _ Δ j.left_shown D) (ends (c.block-in-Join-2.ensures.names _ Δ j.right_shown (declares_at s (declares_kept k c.requires.ordered (omega arith) D)))));
+      names = λ u Δ h D. let j = is_join h c.in-Join.is in by (branches_join _ _ _ _ j.whole) (passes (c.in_ok-block-in-Join.ensures.names _ Δ j.left_shown D) (ends (c.block-in-Join-2.ensures.names _ Δ j.right_shown (declares_at s (declares_kept k c.requires.ordered (omega arith) D)))));
       scope = c.block-in-Join-2.ensures.scope ∙ s;
       keeps = with_ok c.block-in-Join-2.ensures.keeps (λ q. keeps_both k (keeps_at (ap (λ z. z.top) s) q) (omega arith));
     }
@@ -156,10 +156,10 @@ declarations-type_tree-requires t c =
     let q = fit_led c.part_of-its_type.result part_of p.tree c.part_of-its_type.ensures.leads part_less in
     record { within = fit_within q; tree = q; ordered = c.requires.ordered; below = omega arith; free = c.requires.free }
 
-pub declarations-returns-in-err-type-tree : goal.declarations-returns-in-err-type-tree
-declarations-returns-in-err-type-tree t c =
+pub declarations-returns-in_err-type_tree-in-Under : goal.declarations-returns-in_err-type_tree-in-Under
+declarations-returns-in_err-type_tree-in-Under t c =
     record {
-      names = λ u Δ h D. let j = is_under h c.in-Under.is in by (declarations_under _ _ _ j.whole) (else_way c.if-is.ensures (then_way c.if-is-2.ensures (stops _ c.from_residual.ensures.1 (c.in-err-type-tree.ensures.names _ Δ (c.part_of-its_type.ensures.leads _ _ j.shown) D))));
+      names = λ u Δ h D. let j = is_under h c.in-Under.is in by (declarations_under _ _ _ j.whole) (else_way c.if-is.ensures (then_way c.if-is-2.ensures (stops _ c.from_residual.ensures.1 (c.in_err-type_tree-in-Under.ensures.names _ Δ (c.part_of-its_type.ensures.leads _ _ j.shown) D))));
       after = not_ok _ c.from_residual.ensures.0;
     }
 
@@ -171,14 +171,14 @@ declarations-token_at-name-requires t c =
 pub declarations-declare-requires : goal.declarations-declare-requires
 declarations-declare-requires t c =
     let p = fit_part c.requires.tree c.in-Under.is in
-    let k = c.in-ok-type-tree.ensures.keeps.then _ refl in
+    let k = c.in_ok-type_tree-in-Under.ensures.keeps.then _ refl in
     record { ordered = c.requires.ordered; within = k.within; room = omega (arith, k.room, p.free) }
 
 pub declarations-returns-then-is-2 : goal.declarations-returns-then-is-2
 declarations-returns-then-is-2 t c =
-    let k = c.in-ok-type-tree.ensures.keeps.then _ refl in
+    let k = c.in_ok-type_tree-in-Under.ensures.keeps.then _ refl in
     record {
-      names = λ u Δ h D. let j = is_under h c.in-Under.is in by (declarations_under _ _ _ j.whole) (else_way c.if-is.ensures (then_way c.if-is-2.ensures (passes (c.in-ok-type-tree.ensures.names _ Δ (c.part_of-its_type.ensures.leads _ _ j.shown) D) (ends (at_token (λ x. twice (innermost Δ) x.place x.text) (c.token_at-name.ensures _ _ j.shown) (c.declare.ensures.twice _ (declares_kept k c.requires.ordered (omega arith) D).inner))))));
+      names = λ u Δ h D. let j = is_under h c.in-Under.is in by (declarations_under _ _ _ j.whole) (else_way c.if-is.ensures (then_way c.if-is-2.ensures (passes (c.in_ok-type_tree-in-Under.ensures.names _ Δ (c.part_of-its_type.ensures.leads _ _ j.shown) D) (ends (at_token (λ x. twice (innermost Δ) x.place x.text) (c.token_at-name.ensures _ _ j.shown) (c.declare.ensures.twice _ (declares_kept k c.requires.ordered (omega arith) D).inner))))));
       after = with_ok c.declare.ensures.named (λ q.
           record {
             grown = grown_behind k (grown_named q);
@@ -192,24 +192,24 @@ declarations-type_tree-requires-then-is-3 t c =
     let p = fit_part c.requires.tree c.in-Under.is in
     record { within = p.within; tree = p.tree; ordered = c.requires.ordered; below = omega arith; free = c.requires.free }
 
-pub declarations-returns-in-err-type-tree-2 : goal.declarations-returns-in-err-type-tree-2
-declarations-returns-in-err-type-tree-2 t c =
+pub declarations-returns-in_err-type_tree-in-Under-2 : goal.declarations-returns-in_err-type_tree-in-Under-2
+declarations-returns-in_err-type_tree-in-Under-2 t c =
     record {
-      names = λ u Δ h D. let j = is_under h c.in-Under.is in by (declarations_under _ _ _ j.whole) (else_way c.if-is.ensures (else_way c.if-is-2.ensures (then_way c.if-is-3.ensures (stops _ c.from-residual-in-err-type-tree-2.ensures.1 (c.in-err-type-tree-2.ensures.names _ Δ j.shown D)))));
-      after = not_ok _ c.from-residual-in-err-type-tree-2.ensures.0;
+      names = λ u Δ h D. let j = is_under h c.in-Under.is in by (declarations_under _ _ _ j.whole) (else_way c.if-is.ensures (else_way c.if-is-2.ensures (then_way c.if-is-3.ensures (stops _ c.from_residual-in_err-type_tree-in-Under-2.ensures.1 (c.in_err-type_tree-in-Under-2.ensures.names _ Δ j.shown D)))));
+      after = not_ok _ c.from_residual-in_err-type_tree-in-Under-2.ensures.0;
     }
 
 pub declarations-declare-requires-then-is-3 : goal.declarations-declare-requires-then-is-3
 declarations-declare-requires-then-is-3 t c =
     let p = fit_part c.requires.tree c.in-Under.is in
-    let k = c.in-ok-type-tree-2.ensures.keeps.then _ refl in
+    let k = c.in_ok-type_tree-in-Under-2.ensures.keeps.then _ refl in
     record { ordered = c.requires.ordered; within = k.within; room = omega (arith, k.room, p.free) }
 
 pub declarations-returns-then-is-3 : goal.declarations-returns-then-is-3
 declarations-returns-then-is-3 t c =
-    let k = c.in-ok-type-tree-2.ensures.keeps.then _ refl in
+    let k = c.in_ok-type_tree-in-Under-2.ensures.keeps.then _ refl in
     record {
-      names = λ u Δ h D. let j = is_under h c.in-Under.is in by (declarations_under _ _ _ j.whole) (else_way c.if-is.ensures (else_way c.if-is-2.ensures (then_way c.if-is-3.ensures (passes (c.in-ok-type-tree-2.ensures.names _ Δ j.shown D) (ends (c.declare-then-is-3.ensures.twice _ (declares_kept k c.requires.ordered (omega arith) D).inner))))));
+      names = λ u Δ h D. let j = is_under h c.in-Under.is in by (declarations_under _ _ _ j.whole) (else_way c.if-is.ensures (else_way c.if-is-2.ensures (then_way c.if-is-3.ensures (passes (c.in_ok-type_tree-in-Under-2.ensures.names _ Δ j.shown D) (ends (c.declare-then-is-3.ensures.twice _ (declares_kept k c.requires.ordered (omega arith) D).inner))))));
       after = with_ok c.declare-then-is-3.ensures.named (λ q.
           record {
             grown = grown_behind k (grown_named q);
@@ -240,24 +240,24 @@ declarations-declarations-requires-then-is-5 t c =
     let p = fit_left c.requires.tree c.in-Join.is in
     (omega arith, (p.within, (p.tree, (c.requires.ordered, c.requires.free))))
 
-pub declarations-returns-in-err-declarations : goal.declarations-returns-in-err-declarations
-declarations-returns-in-err-declarations t c =
+pub declarations-returns-in_err-declarations-in-Join : goal.declarations-returns-in_err-declarations-in-Join
+declarations-returns-in_err-declarations-in-Join t c =
     record {
-      names = λ u Δ h D. let j = is_join h c.in-Join.is in by (declarations_join _ _ _ _ j.whole) (else_way c.if-is-4.ensures (then_way c.if-is-5.ensures (stops _ c.from-residual-in-err-declarations.ensures.1 (c.in-err-declarations.ensures.names _ Δ j.left_shown D))));
-      after = not_ok _ c.from-residual-in-err-declarations.ensures.0;
+      names = λ u Δ h D. let j = is_join h c.in-Join.is in by (declarations_join _ _ _ _ j.whole) (else_way c.if-is-4.ensures (then_way c.if-is-5.ensures (stops _ c.from_residual-in_err-declarations-in-Join.ensures.1 (c.in_err-declarations-in-Join.ensures.names _ Δ j.left_shown D))));
+      after = not_ok _ c.from_residual-in_err-declarations-in-Join.ensures.0;
     }
 
 pub declarations-declarations-requires-then-is-5-2 : goal.declarations-declarations-requires-then-is-5-2
 declarations-declarations-requires-then-is-5-2 t c =
-    let g = c.in-ok-declarations.ensures.after.then _ refl in
+    let g = c.in_ok-declarations-in-Join.ensures.after.then _ refl in
     let p = semi_next c.declarations-then-is-5.new.scope.top g.grown.keeps.room c.requires.tree c.in-Join.is g.few in
     (omega arith, (p.within, (p.tree, (omega (arith, g.grown.start, g.grown.more), g.grown.within))))
 
 pub declarations-returns-then-is-5 : goal.declarations-returns-then-is-5
 declarations-returns-then-is-5 t c =
-    let g = c.in-ok-declarations.ensures.after.then _ refl in
+    let g = c.in_ok-declarations-in-Join.ensures.after.then _ refl in
     record {
-      names = λ u Δ h D. let j = is_join h c.in-Join.is in by (declarations_join _ _ _ _ j.whole) (else_way c.if-is-4.ensures (then_way c.if-is-5.ensures (passes (c.in-ok-declarations.ensures.names _ Δ j.left_shown D) (ends (c.declarations-then-is-5-2.ensures.names _ _ j.right_shown (g.declares _ Δ j.left_shown D))))));
+      names = λ u Δ h D. let j = is_join h c.in-Join.is in by (declarations_join _ _ _ _ j.whole) (else_way c.if-is-4.ensures (then_way c.if-is-5.ensures (passes (c.in_ok-declarations-in-Join.ensures.names _ Δ j.left_shown D) (ends (c.declarations-then-is-5-2.ensures.names _ _ j.right_shown (g.declares _ Δ j.left_shown D))))));
       after = with_ok c.declarations-then-is-5-2.ensures.after (λ q.
           record {
             grown = grown_both g.grown q.grown;
@@ -417,18 +417,18 @@ statements-statements-requires-then-is-3 t c =
     let j = is_join c.requires.tree.shown c.in-Join.is in
     (omega arith, (within p.shown, (p, (c.requires.ordered, c.requires.free))))
 
-pub statements-returns-in-err-statements : goal.statements-returns-in-err-statements
-statements-returns-in-err-statements t c =
+pub statements-returns-in_err-statements-in-Join : goal.statements-returns-in_err-statements-in-Join
+statements-returns-in_err-statements-in-Join t c =
     record {
-      names = λ u Δ h D. let j = is_join h c.in-Join.is in by (statements_join _ _ _ _ j.whole) (else_way c.if-is-2.ensures (then_way c.if-is-3.ensures (stops _ c.from_residual.ensures.1 (c.in-err-statements.ensures.names _ Δ j.left_shown D))));
-      scope = c.in-err-statements.ensures.scope;
+      names = λ u Δ h D. let j = is_join h c.in-Join.is in by (statements_join _ _ _ _ j.whole) (else_way c.if-is-2.ensures (then_way c.if-is-3.ensures (stops _ c.from_residual.ensures.1 (c.in_err-statements-in-Join.ensures.names _ Δ j.left_shown D))));
+      scope = c.in_err-statements-in-Join.ensures.scope;
       keeps = not_ok _ c.from_residual.ensures.0;
     }
 
 pub statements-statements-requires-then-is-3-2 : goal.statements-statements-requires-then-is-3-2
 statements-statements-requires-then-is-3-2 t c =
-    let s = c.in-ok-statements.ensures.scope in
-    let k = c.in-ok-statements.ensures.keeps.then _ refl in
+    let s = c.in_ok-statements-in-Join.ensures.scope in
+    let k = c.in_ok-statements-in-Join.ensures.keeps.then _ refl in
     let e = ap (λ z. z.top) s in
     let f = ap (λ z. z.start) s in
     let w = k.within in
@@ -438,10 +438,10 @@ statements-statements-requires-then-is-3-2 t c =
 
 pub statements-returns-then-is-3 : goal.statements-returns-then-is-3
 statements-returns-then-is-3 t c =
-    let s = c.in-ok-statements.ensures.scope in
-    let k = c.in-ok-statements.ensures.keeps.then _ refl in
+    let s = c.in_ok-statements-in-Join.ensures.scope in
+    let k = c.in_ok-statements-in-Join.ensures.keeps.then _ refl in
     record {
-      names = λ u Δ h D. let j = is_join h c.in-Join.is in by (statements_join _ _ _ _ j.whole) (else_way c.if-is-2.ensures (then_way c.if-is-3.ensures (passes (c.in-ok-statements.ensures.names _ Δ j.left_shown D) (ends (c.statements-then-is-3-2.ensures.names _ Δ j.right_shown (declares_at s (declares_kept k c.requires.ordered (omega arith) D)))))));
+      names = λ u Δ h D. let j = is_join h c.in-Join.is in by (statements_join _ _ _ _ j.whole) (else_way c.if-is-2.ensures (then_way c.if-is-3.ensures (passes (c.in_ok-statements-in-Join.ensures.names _ Δ j.left_shown D) (ends (c.statements-then-is-3-2.ensures.names _ Δ j.right_shown (declares_at s (declares_kept k c.requires.ordered (omega arith) D)))))));
       scope = c.statements-then-is-3-2.ensures.scope ∙ s;
       keeps = with_ok c.statements-then-is-3-2.ensures.keeps (λ q. keeps_both k (keeps_at (ap (λ z. z.top) s) q) (omega arith));
     }
@@ -451,12 +451,12 @@ statements-expression-requires-then-is-4 t c =
     let p = below_left (behind_rooted c.requires.tree) c.in-Join.is in
     record { within = p.within; tree = p.rooted }
 
-pub statements-returns-in-err-expression : goal.statements-returns-in-err-expression
-statements-returns-in-err-expression t c =
+pub statements-returns-in_err-expression-in-Join : goal.statements-returns-in_err-expression-in-Join
+statements-returns-in_err-expression-in-Join t c =
     record {
-      names = λ u Δ h D. let j = is_join h c.in-Join.is in by (statements_join _ _ _ _ j.whole) (else_way c.if-is-2.ensures (else_way c.if-is-3.ensures (then_way c.if-is-4.ensures (stops _ c.from-residual-in-err-expression.ensures.1 (c.in-err-expression.ensures _ Δ j.left_shown D)))));
+      names = λ u Δ h D. let j = is_join h c.in-Join.is in by (statements_join _ _ _ _ j.whole) (else_way c.if-is-2.ensures (else_way c.if-is-3.ensures (then_way c.if-is-4.ensures (stops _ c.from_residual-in_err-expression-in-Join.ensures.1 (c.in_err-expression-in-Join.ensures _ Δ j.left_shown D)))));
       scope = refl;
-      keeps = not_ok _ c.from-residual-in-err-expression.ensures.0;
+      keeps = not_ok _ c.from_residual-in_err-expression-in-Join.ensures.0;
     }
 
 pub statements-branches-requires : goal.statements-branches-requires
@@ -468,7 +468,7 @@ statements-branches-requires t c =
 pub statements-returns-then-is-4 : goal.statements-returns-then-is-4
 statements-returns-then-is-4 t c =
     record {
-      names = λ u Δ h D. let j = is_join h c.in-Join.is in by (statements_join _ _ _ _ j.whole) (else_way c.if-is-2.ensures (else_way c.if-is-3.ensures (then_way c.if-is-4.ensures (passes (c.in-ok-expression.ensures _ Δ j.left_shown D) (ends (c.branches.ensures.names _ Δ j.right_shown D))))));
+      names = λ u Δ h D. let j = is_join h c.in-Join.is in by (statements_join _ _ _ _ j.whole) (else_way c.if-is-2.ensures (else_way c.if-is-3.ensures (then_way c.if-is-4.ensures (passes (c.in_ok-expression-in-Join.ensures _ Δ j.left_shown D) (ends (c.branches.ensures.names _ Δ j.right_shown D))))));
       scope = c.branches.ensures.scope;
       keeps = c.branches.ensures.keeps;
     }
@@ -478,12 +478,12 @@ statements-expression-requires-then-is-5 t c =
     let p = below_left (behind_rooted c.requires.tree) c.in-Join.is in
     record { within = p.within; tree = p.rooted }
 
-pub statements-returns-in-err-expression-2 : goal.statements-returns-in-err-expression-2
-statements-returns-in-err-expression-2 t c =
+pub statements-returns-in_err-expression-in-Join-2 : goal.statements-returns-in_err-expression-in-Join-2
+statements-returns-in_err-expression-in-Join-2 t c =
     record {
-      names = λ u Δ h D. let j = is_join h c.in-Join.is in by (statements_join _ _ _ _ j.whole) (else_way c.if-is-2.ensures (else_way c.if-is-3.ensures (else_way c.if-is-4.ensures (then_way c.if-is-5.ensures (stops _ c.from-residual-in-err-expression-2.ensures.1 (c.in-err-expression-2.ensures _ Δ j.left_shown D))))));
+      names = λ u Δ h D. let j = is_join h c.in-Join.is in by (statements_join _ _ _ _ j.whole) (else_way c.if-is-2.ensures (else_way c.if-is-3.ensures (else_way c.if-is-4.ensures (then_way c.if-is-5.ensures (stops _ c.from_residual-in_err-expression-in-Join-2.ensures.1 (c.in_err-expression-in-Join-2.ensures _ Δ j.left_shown D))))));
       scope = refl;
-      keeps = not_ok _ c.from-residual-in-err-expression-2.ensures.0;
+      keeps = not_ok _ c.from_residual-in_err-expression-in-Join-2.ensures.0;
     }
 
 pub statements-block-requires-then-is-5 : goal.statements-block-requires-then-is-5
@@ -495,7 +495,7 @@ statements-block-requires-then-is-5 t c =
 pub statements-returns-then-is-5 : goal.statements-returns-then-is-5
 statements-returns-then-is-5 t c =
     record {
-      names = λ u Δ h D. let j = is_join h c.in-Join.is in by (statements_join _ _ _ _ j.whole) (else_way c.if-is-2.ensures (else_way c.if-is-3.ensures (else_way c.if-is-4.ensures (then_way c.if-is-5.ensures (passes (c.in-ok-expression-2.ensures _ Δ j.left_shown D) (ends (c.block-then-is-5.ensures.names _ Δ j.right_shown D)))))));
+      names = λ u Δ h D. let j = is_join h c.in-Join.is in by (statements_join _ _ _ _ j.whole) (else_way c.if-is-2.ensures (else_way c.if-is-3.ensures (else_way c.if-is-4.ensures (then_way c.if-is-5.ensures (passes (c.in_ok-expression-in-Join-2.ensures _ Δ j.left_shown D) (ends (c.block-then-is-5.ensures.names _ Δ j.right_shown D)))))));
       scope = c.block-then-is-5.ensures.scope;
       keeps = c.block-then-is-5.ensures.keeps;
     }
@@ -505,12 +505,12 @@ statements-token_at-name-requires t c =
     let p = below_left (behind_rooted c.requires.tree) c.in-Join.is in
     record { within = p.within; tree = p.rooted }
 
-pub statements-returns-in-err-used : goal.statements-returns-in-err-used
-statements-returns-in-err-used t c =
+pub statements-returns-in_err-used-in-Join : goal.statements-returns-in_err-used-in-Join
+statements-returns-in_err-used-in-Join t c =
     record {
-      names = λ u Δ h D. let j = is_join h c.in-Join.is in by (statements_join _ _ _ _ j.whole) (else_way c.if-is-2.ensures (else_way c.if-is-3.ensures (else_way c.if-is-4.ensures (else_way c.if-is-5.ensures (stops _ c.from-residual-in-err-used.ensures.1 (at_token (λ x. undeclared Δ x.place x.text) (c.token_at-name.ensures _ _ j.left_shown) (c.in-err-used.ensures Δ D)))))));
+      names = λ u Δ h D. let j = is_join h c.in-Join.is in by (statements_join _ _ _ _ j.whole) (else_way c.if-is-2.ensures (else_way c.if-is-3.ensures (else_way c.if-is-4.ensures (else_way c.if-is-5.ensures (stops _ c.from_residual-in_err-used-in-Join.ensures.1 (at_token (λ x. undeclared Δ x.place x.text) (c.token_at-name.ensures _ _ j.left_shown) (c.in_err-used-in-Join.ensures Δ D)))))));
       scope = refl;
-      keeps = not_ok _ c.from-residual-in-err-used.ensures.0;
+      keeps = not_ok _ c.from_residual-in_err-used-in-Join.ensures.0;
     }
 
 pub statements-arguments-requires : goal.statements-arguments-requires
@@ -530,10 +530,10 @@ statements-returns-in-Leaf t c =
       keeps = yes_ok (keeps_all c.requires.free);
     }
 
-pub statements-returns-in-ok-used : goal.statements-returns-in-ok-used
-statements-returns-in-ok-used t c =
+pub statements-returns-in_ok-used-in-Join : goal.statements-returns-in_ok-used-in-Join
+statements-returns-in_ok-used-in-Join t c =
     record {
-      names = λ u Δ h D. let j = is_join h c.in-Join.is in by (statements_join _ _ _ _ j.whole) (else_way c.if-is-2.ensures (else_way c.if-is-3.ensures (else_way c.if-is-4.ensures (else_way c.if-is-5.ensures (passes (at_token (λ x. undeclared Δ x.place x.text) (c.token_at-name.ensures _ _ j.left_shown) (c.in-ok-used.ensures Δ D)) (ends (c.arguments.ensures _ Δ j.right_shown D)))))));
+      names = λ u Δ h D. let j = is_join h c.in-Join.is in by (statements_join _ _ _ _ j.whole) (else_way c.if-is-2.ensures (else_way c.if-is-3.ensures (else_way c.if-is-4.ensures (else_way c.if-is-5.ensures (passes (at_token (λ x. undeclared Δ x.place x.text) (c.token_at-name.ensures _ _ j.left_shown) (c.in_ok-used-in-Join.ensures Δ D)) (ends (c.arguments.ensures _ Δ j.right_shown D)))))));
       scope = refl;
       keeps = yes_ok (keeps_all c.requires.free);
     }

@@ -29,15 +29,15 @@ expression-requires-in-Join t c =
     let p = below_left c.requires.tree c.in-Join.is in
     (omega arith, (p.within, p.rooted))
 
-pub returns-in-err-expression : goal.returns-in-err-expression
-returns-in-err-expression t c = λ u Δ h D.
+pub returns-in_err-expression-in-Join : goal.returns-in_err-expression-in-Join
+returns-in_err-expression-in-Join t c = λ u Δ h D.
     let j = is_join h c.in-Join.is in
-    by (names_join _ _ _ _ j.whole) (stops _ c.from_residual.ensures.1 (c.in-err-expression.ensures _ Δ j.left_shown D))
+    by (names_join _ _ _ _ j.whole) (stops _ c.from_residual.ensures.1 (c.in_err-expression-in-Join.ensures _ Δ j.left_shown D))
 
 pub returns-then-is-2 : goal.returns-then-is-2
 returns-then-is-2 t c = λ u Δ h D.
     let j = is_join h c.in-Join.is in
-    by (names_join _ _ _ _ j.whole) (passes (c.in-ok-expression.ensures _ Δ j.left_shown D) (then_way c.if-is-2.ensures nothing))
+    by (names_join _ _ _ _ j.whole) (passes (c.in_ok-expression-in-Join.ensures _ Δ j.left_shown D) (then_way c.if-is-2.ensures nothing))
 
 pub expression-requires-in-Join-2 : goal.expression-requires-in-Join-2
 expression-requires-in-Join-2 t c =
@@ -47,4 +47,4 @@ expression-requires-in-Join-2 t c =
 pub returns-else-is-2 : goal.returns-else-is-2
 returns-else-is-2 t c = λ u Δ h D.
     let j = is_join h c.in-Join.is in
-    by (names_join _ _ _ _ j.whole) (passes (c.in-ok-expression.ensures _ Δ j.left_shown D) (else_way c.if-is-2.ensures (ends (c.expression-in-Join-2.ensures _ Δ j.right_shown D))))
+    by (names_join _ _ _ _ j.whole) (passes (c.in_ok-expression-in-Join.ensures _ Δ j.left_shown D) (else_way c.if-is-2.ensures (ends (c.expression-in-Join-2.ensures _ Δ j.right_shown D))))

@@ -10,10 +10,10 @@ expression-requires-then-is t c =
     let p = below_left c.requires.tree c.in-Join.is in
     record { within = p.within; tree = p.rooted }
 
-pub returns-in-err-expression : goal.returns-in-err-expression
-returns-in-err-expression t c = λ u Δ h D.
+pub returns-in_err-expression-in-Join : goal.returns-in_err-expression-in-Join
+returns-in_err-expression-in-Join t c = λ u Δ h D.
     let j = is_join h c.in-Join.is in
-    by (all_join _ _ _ _ j.whole) (then_way c.if-is.ensures (stops _ c.from_residual.ensures.1 (c.in-err-expression.ensures _ Δ j.left_shown D)))
+    by (all_join _ _ _ _ j.whole) (then_way c.if-is.ensures (stops _ c.from_residual.ensures.1 (c.in_err-expression-in-Join.ensures _ Δ j.left_shown D)))
 
 pub expressions-requires : goal.expressions-requires
 expressions-requires t c =
@@ -23,7 +23,7 @@ expressions-requires t c =
 pub returns-then-is : goal.returns-then-is
 returns-then-is t c = λ u Δ h D.
     let j = is_join h c.in-Join.is in
-    by (all_join _ _ _ _ j.whole) (then_way c.if-is.ensures (passes (c.in-ok-expression.ensures _ Δ j.left_shown D) (ends (c.expressions.ensures _ Δ j.right_shown D))))
+    by (all_join _ _ _ _ j.whole) (then_way c.if-is.ensures (passes (c.in_ok-expression-in-Join.ensures _ Δ j.left_shown D) (ends (c.expressions.ensures _ Δ j.right_shown D))))
 
 pub returns-in-Blank : goal.returns-in-Blank
 returns-in-Blank t c = λ u Δ h D. absurd (no_blank h c.in-Blank.is)

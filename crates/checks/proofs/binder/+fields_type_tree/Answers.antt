@@ -16,19 +16,19 @@ fields-type_tree-requires t c =
     let p = fit_part c.requires.tree c.in-Under.is in
     (omega arith, (p.within, (p.tree, (c.requires.ordered, (omega arith, c.requires.free)))))
 
-pub fields-returns-in-err-type-tree : goal.fields-returns-in-err-type-tree
-fields-returns-in-err-type-tree t c =
+pub fields-returns-in_err-type_tree-in-Under : goal.fields-returns-in_err-type_tree-in-Under
+fields-returns-in_err-type_tree-in-Under t c =
     record {
       names = λ u Δ xs h D I.
           let j = is_under h c.in-Under.is in
-          by (fields_under _ _ _ _ j.whole) (stops _ c.from_residual.ensures.1 (c.in-err-type-tree.ensures.names _ Δ j.shown D));
+          by (fields_under _ _ _ _ j.whole) (stops _ c.from_residual.ensures.1 (c.in_err-type_tree-in-Under.ensures.names _ Δ j.shown D));
       after = not_ok _ c.from_residual.ensures.0;
     }
 
 pub fields-declare-requires : goal.fields-declare-requires
 fields-declare-requires t c =
     let p = fit_part c.requires.tree c.in-Under.is in
-    let k = c.in-ok-type-tree.ensures.keeps.then _ refl in
+    let k = c.in_ok-type_tree-in-Under.ensures.keeps.then _ refl in
     record { ordered = c.requires.inside; within = k.within; room = omega (arith, k.room, p.free) }
 
 pub fields-fields-requires : goal.fields-fields-requires
@@ -36,18 +36,18 @@ fields-fields-requires t c =
     let p = fit_left c.requires.tree c.in-Join.is in
     (omega arith, (p.within, (p.tree, (c.requires.ordered, (c.requires.below, (c.requires.inside, c.requires.free))))))
 
-pub fields-returns-in-err-fields : goal.fields-returns-in-err-fields
-fields-returns-in-err-fields t c =
+pub fields-returns-in_err-fields-in-Join : goal.fields-returns-in_err-fields-in-Join
+fields-returns-in_err-fields-in-Join t c =
     record {
       names = λ u Δ xs h D I.
           let j = is_join h c.in-Join.is in
-          by (fields_join _ _ _ _ _ j.whole) (stops _ c.from-residual-in-err-fields.ensures.1 (c.in-err-fields.ensures.names _ Δ xs j.left_shown D I));
-      after = not_ok _ c.from-residual-in-err-fields.ensures.0;
+          by (fields_join _ _ _ _ _ j.whole) (stops _ c.from_residual-in_err-fields-in-Join.ensures.1 (c.in_err-fields-in-Join.ensures.names _ Δ xs j.left_shown D I));
+      after = not_ok _ c.from_residual-in_err-fields-in-Join.ensures.0;
     }
 
 pub fields-fields-requires-in-Join : goal.fields-fields-requires-in-Join
 fields-fields-requires-in-Join t c =
-    let g = c.in-ok-fields.ensures.after.then _ refl in
+    let g = c.in_ok-fields-in-Join.ensures.after.then _ refl in
     let p = fit_right c.fields.new.inner.top g.grown.keeps.room c.requires.tree c.in-Join.is g.few in
     (omega arith, (p.within, (p.tree, (c.requires.ordered, (omega (arith, g.grown.start), (omega (arith, g.grown.start, g.grown.more), g.grown.within))))))
 
@@ -65,13 +65,13 @@ fields-returns-in-Leaf t c =
       });
     }
 
-pub fields-returns-in-ok-type-tree : goal.fields-returns-in-ok-type-tree
-fields-returns-in-ok-type-tree t c =
-    let k = c.in-ok-type-tree.ensures.keeps.then _ refl in
+pub fields-returns-in_ok-type_tree-in-Under : goal.fields-returns-in_ok-type_tree-in-Under
+fields-returns-in_ok-type_tree-in-Under t c =
+    let k = c.in_ok-type_tree-in-Under.ensures.keeps.then _ refl in
     record {
       names = λ u Δ xs h D I.
           let j = is_under h c.in-Under.is in
-          by (fields_under _ _ _ _ j.whole) (passes (c.in-ok-type-tree.ensures.names _ Δ j.shown D) (ends (c.declare.ensures.twice xs (inner_kept k c.requires.inside (omega arith) I))));
+          by (fields_under _ _ _ _ j.whole) (passes (c.in_ok-type_tree-in-Under.ensures.names _ Δ j.shown D) (ends (c.declare.ensures.twice xs (inner_kept k c.requires.inside (omega arith) I))));
       after = with_ok c.declare.ensures.named (λ n.
           record {
             grown = grown_behind k (grown_named n);
@@ -83,14 +83,14 @@ fields-returns-in-ok-type-tree t c =
           });
     }
 
-pub fields-returns-in-ok-fields : goal.fields-returns-in-ok-fields
-fields-returns-in-ok-fields t c =
-    let g = c.in-ok-fields.ensures.after.then _ refl in
+pub fields-returns-in_ok-fields-in-Join : goal.fields-returns-in_ok-fields-in-Join
+fields-returns-in_ok-fields-in-Join t c =
+    let g = c.in_ok-fields-in-Join.ensures.after.then _ refl in
     record {
       names = λ u Δ xs h D I.
           let j = is_join h c.in-Join.is in
           by (fields_join _ _ _ _ _ j.whole)
-          (passes (c.in-ok-fields.ensures.names _ Δ xs j.left_shown D I)
+          (passes (c.in_ok-fields-in-Join.ensures.names _ Δ xs j.left_shown D I)
           (ends (c.fields-in-Join.ensures.names _ Δ _ j.right_shown (declares_kept g.grown.keeps c.requires.ordered (omega arith) D) (g.inner _ xs j.left_shown I))));
       after = with_ok c.fields-in-Join.ensures.after (λ q.
           record {

@@ -42,19 +42,19 @@ type_tree-requires t c =
     let q = fit_led c.formal_type-its_type.result (λ x. cond (by_reference x) (part_of x) x) p.tree c.formal_type-its_type.ensures.leads formal_less in
     record { within = fit_within q; tree = q; ordered = c.requires.ordered; below = omega arith; free = c.requires.free }
 
-pub returns-in-err-type-tree : goal.returns-in-err-type-tree
-returns-in-err-type-tree t c =
+pub returns-in_err-type_tree-in-Under : goal.returns-in_err-type_tree-in-Under
+returns-in_err-type_tree-in-Under t c =
     record {
       names = λ u Δ h D.
           let j = is_under h c.in-Under.is in
-          by (formals_under _ _ _ j.whole) (else_way c.if-is.ensures (stops _ c.from_residual.ensures.1 (c.in-err-type-tree.ensures.names _ Δ (c.formal_type-its_type.ensures.leads _ _ j.shown) D)));
+          by (formals_under _ _ _ j.whole) (else_way c.if-is.ensures (stops _ c.from_residual.ensures.1 (c.in_err-type_tree-in-Under.ensures.names _ Δ (c.formal_type-its_type.ensures.leads _ _ j.shown) D)));
       after = not_ok _ c.from_residual.ensures.0;
     }
 
 pub declare-requires : goal.declare-requires
 declare-requires t c =
     let p = fit_part c.requires.tree c.in-Under.is in
-    let k = c.in-ok-type-tree.ensures.keeps.then _ refl in
+    let k = c.in_ok-type_tree-in-Under.ensures.keeps.then _ refl in
     record { ordered = c.requires.ordered; within = k.within; room = omega (arith, k.room, p.free) }
 
 pub formals-requires-in-Join : goal.formals-requires-in-Join
@@ -62,18 +62,18 @@ formals-requires-in-Join t c =
     let p = fit_left c.requires.tree c.in-Join.is in
     (omega arith, (p.within, (p.tree, (c.requires.ordered, c.requires.free))))
 
-pub returns-in-err-formals : goal.returns-in-err-formals
-returns-in-err-formals t c =
+pub returns-in_err-formals-in-Join : goal.returns-in_err-formals-in-Join
+returns-in_err-formals-in-Join t c =
     record {
       names = λ u Δ h D.
           let j = is_join h c.in-Join.is in
-          by (formals_join _ _ _ _ j.whole) (stops _ c.from-residual-in-err-formals.ensures.1 (c.in-err-formals.ensures.names _ Δ j.left_shown D));
-      after = not_ok _ c.from-residual-in-err-formals.ensures.0;
+          by (formals_join _ _ _ _ j.whole) (stops _ c.from_residual-in_err-formals-in-Join.ensures.1 (c.in_err-formals-in-Join.ensures.names _ Δ j.left_shown D));
+      after = not_ok _ c.from_residual-in_err-formals-in-Join.ensures.0;
     }
 
 pub formals-requires-in-Join-2 : goal.formals-requires-in-Join-2
 formals-requires-in-Join-2 t c =
-    let g = c.in-ok-formals.ensures.after.then _ refl in
+    let g = c.in_ok-formals-in-Join.ensures.after.then _ refl in
     let p = fit_right c.formals-in-Join.new.scope.top g.grown.keeps.room c.requires.tree c.in-Join.is g.few in
     (omega arith, (p.within, (p.tree, (omega (arith, g.grown.start, g.grown.more), g.grown.within))))
 
@@ -91,13 +91,13 @@ returns-in-Leaf t c =
       });
     }
 
-pub returns-in-ok-type-tree : goal.returns-in-ok-type-tree
-returns-in-ok-type-tree t c =
-    let k = c.in-ok-type-tree.ensures.keeps.then _ refl in
+pub returns-in_ok-type_tree-in-Under : goal.returns-in_ok-type_tree-in-Under
+returns-in_ok-type_tree-in-Under t c =
+    let k = c.in_ok-type_tree-in-Under.ensures.keeps.then _ refl in
     record {
       names = λ u Δ h D.
           let j = is_under h c.in-Under.is in
-          by (formals_under _ _ _ j.whole) (else_way c.if-is.ensures (passes (c.in-ok-type-tree.ensures.names _ Δ (c.formal_type-its_type.ensures.leads _ _ j.shown) D) (ends (c.declare.ensures.twice _ (declares_kept k c.requires.ordered (omega arith) D).inner))));
+          by (formals_under _ _ _ j.whole) (else_way c.if-is.ensures (passes (c.in_ok-type_tree-in-Under.ensures.names _ Δ (c.formal_type-its_type.ensures.leads _ _ j.shown) D) (ends (c.declare.ensures.twice _ (declares_kept k c.requires.ordered (omega arith) D).inner))));
       after = with_ok c.declare.ensures.named (λ n.
           record {
             grown = grown_behind k (grown_named n);
@@ -109,13 +109,13 @@ returns-in-ok-type-tree t c =
           });
     }
 
-pub returns-in-ok-formals : goal.returns-in-ok-formals
-returns-in-ok-formals t c =
-    let g = c.in-ok-formals.ensures.after.then _ refl in
+pub returns-in_ok-formals-in-Join : goal.returns-in_ok-formals-in-Join
+returns-in_ok-formals-in-Join t c =
+    let g = c.in_ok-formals-in-Join.ensures.after.then _ refl in
     record {
       names = λ u Δ h D.
           let j = is_join h c.in-Join.is in
-          by (formals_join _ _ _ _ j.whole) (passes (c.in-ok-formals.ensures.names _ Δ j.left_shown D) (ends (c.formals-in-Join-2.ensures.names _ _ j.right_shown (g.declares _ Δ j.left_shown D))));
+          by (formals_join _ _ _ _ j.whole) (passes (c.in_ok-formals-in-Join.ensures.names _ Δ j.left_shown D) (ends (c.formals-in-Join-2.ensures.names _ _ j.right_shown (g.declares _ Δ j.left_shown D))));
       after = with_ok c.formals-in-Join-2.ensures.after (λ q.
           record {
             grown = grown_both g.grown q.grown;

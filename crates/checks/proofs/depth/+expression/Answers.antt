@@ -5,10 +5,10 @@ use Rattle.checks.proofs.Steps.{nothing, ends, passes, stops, then_way, else_way
 use Rattle.checks.proofs.Ready.{below_part, below_left, below_right}
 use Rattle.checks.proofs.depth.+expression.Goals as goal
 
-pub returns-in-err-node : goal.returns-in-err-node
-returns-in-err-node t c = λ s u h.
+pub returns-in_err-node-in-Under : goal.returns-in_err-node-in-Under
+returns-in_err-node-in-Under t c = λ s u h.
     let j = is_under h c.in-Under.is in
-    by (deep_under _ _ _ j.whole) (stops _ c.from_residual.ensures.1 c.in-err-node.ensures)
+    by (deep_under _ _ _ j.whole) (stops _ c.from_residual.ensures.1 c.in_err-node-in-Under.ensures)
 
 pub expression-requires : goal.expression-requires
 expression-requires t c =
@@ -23,20 +23,20 @@ expression-requires-in-Join t c =
     let p = below_left c.requires.tree c.in-Join.is in
     (omega arith, (p.within, (p.rooted, omega arith)))
 
-pub returns-in-err-expression : goal.returns-in-err-expression
-returns-in-err-expression t c = λ s u h.
+pub returns-in_err-expression-in-Join : goal.returns-in_err-expression-in-Join
+returns-in_err-expression-in-Join t c = λ s u h.
     let j = is_join h c.in-Join.is in
-    by (deep_join _ _ _ _ j.whole) (stops _ c.from-residual-in-err-expression.ensures.1 (c.in-err-expression.ensures s _ j.left_shown))
+    by (deep_join _ _ _ _ j.whole) (stops _ c.from_residual-in_err-expression-in-Join.ensures.1 (c.in_err-expression-in-Join.ensures s _ j.left_shown))
 
-pub returns-in-err-node-2 : goal.returns-in-err-node-2
-returns-in-err-node-2 t c = λ s u h.
+pub returns-in_err-node-in-Join : goal.returns-in_err-node-in-Join
+returns-in_err-node-in-Join t c = λ s u h.
     let j = is_join h c.in-Join.is in
-    by (deep_join _ _ _ _ j.whole) (passes (c.in-ok-expression.ensures s _ j.left_shown) (stops _ c.from-residual-in-err-node-2.ensures.1 c.in-err-node-2.ensures))
+    by (deep_join _ _ _ _ j.whole) (passes (c.in_ok-expression-in-Join.ensures s _ j.left_shown) (stops _ c.from_residual-in_err-node-in-Join.ensures.1 c.in_err-node-in-Join.ensures))
 
 pub returns-then-is : goal.returns-then-is
 returns-then-is t c = λ s u h.
     let j = is_join h c.in-Join.is in
-    by (deep_join _ _ _ _ j.whole) (passes (c.in-ok-expression.ensures s _ j.left_shown) (passes c.in-ok-node-2.ensures (then_way c.if-is.ensures nothing)))
+    by (deep_join _ _ _ _ j.whole) (passes (c.in_ok-expression-in-Join.ensures s _ j.left_shown) (passes c.in_ok-node-in-Join.ensures (then_way c.if-is.ensures nothing)))
 
 pub expression-requires-in-Join-2 : goal.expression-requires-in-Join-2
 expression-requires-in-Join-2 t c =
@@ -49,12 +49,12 @@ returns-in-Blank t c = λ s u h. absurd (no_blank h c.in-Blank.is)
 pub returns-in-Leaf : goal.returns-in-Leaf
 returns-in-Leaf t c = λ s u h. by (deep_leaf _ _ (is_leaf h c.in-Leaf.is)) (ends c.node.ensures)
 
-pub returns-in-ok-node : goal.returns-in-ok-node
-returns-in-ok-node t c = λ s u h.
+pub returns-in_ok-node-in-Under : goal.returns-in_ok-node-in-Under
+returns-in_ok-node-in-Under t c = λ s u h.
     let j = is_under h c.in-Under.is in
-    by (deep_under _ _ _ j.whole) (passes c.in-ok-node.ensures (ends (c.expression.ensures s _ j.shown)))
+    by (deep_under _ _ _ j.whole) (passes c.in_ok-node-in-Under.ensures (ends (c.expression.ensures s _ j.shown)))
 
 pub returns-else-is : goal.returns-else-is
 returns-else-is t c = λ s u h.
     let j = is_join h c.in-Join.is in
-    by (deep_join _ _ _ _ j.whole) (passes (c.in-ok-expression.ensures s _ j.left_shown) (passes c.in-ok-node-2.ensures (else_way c.if-is.ensures (ends (c.expression-in-Join-2.ensures s _ j.right_shown)))))
+    by (deep_join _ _ _ _ j.whole) (passes (c.in_ok-expression-in-Join.ensures s _ j.left_shown) (passes c.in_ok-node-in-Join.ensures (else_way c.if-is.ensures (ends (c.expression-in-Join-2.ensures s _ j.right_shown)))))

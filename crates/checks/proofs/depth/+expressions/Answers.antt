@@ -10,10 +10,10 @@ expression-requires-then-is t c =
     let p = below_left c.requires.tree c.in-Join.is in
     record { within = p.within; tree = p.rooted; room = omega arith }
 
-pub returns-in-err-expression : goal.returns-in-err-expression
-returns-in-err-expression t c = λ s u h.
+pub returns-in_err-expression-in-Join : goal.returns-in_err-expression-in-Join
+returns-in_err-expression-in-Join t c = λ s u h.
     let j = is_join h c.in-Join.is in
-    by (all_join _ _ _ _ j.whole) (then_way c.if-is.ensures (stops _ c.from_residual.ensures.1 (c.in-err-expression.ensures s _ j.left_shown)))
+    by (all_join _ _ _ _ j.whole) (then_way c.if-is.ensures (stops _ c.from_residual.ensures.1 (c.in_err-expression-in-Join.ensures s _ j.left_shown)))
 
 pub expressions-requires : goal.expressions-requires
 expressions-requires t c =
@@ -23,7 +23,7 @@ expressions-requires t c =
 pub returns-then-is : goal.returns-then-is
 returns-then-is t c = λ s u h.
     let j = is_join h c.in-Join.is in
-    by (all_join _ _ _ _ j.whole) (then_way c.if-is.ensures (passes (c.in-ok-expression.ensures s _ j.left_shown) (ends (c.expressions.ensures s _ j.right_shown))))
+    by (all_join _ _ _ _ j.whole) (then_way c.if-is.ensures (passes (c.in_ok-expression-in-Join.ensures s _ j.left_shown) (ends (c.expressions.ensures s _ j.right_shown))))
 
 pub returns-in-Blank : goal.returns-in-Blank
 returns-in-Blank t c = λ s u h. absurd (no_blank h c.in-Blank.is)

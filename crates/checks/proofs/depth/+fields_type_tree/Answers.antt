@@ -13,20 +13,20 @@ fields-type_tree-requires t c =
     let p = below_part c.requires.tree c.in-Under.is in
     (omega arith, (p.within, (p.rooted, omega arith)))
 
-pub fields-returns-in-err-type-tree : goal.fields-returns-in-err-type-tree
-fields-returns-in-err-type-tree t c = λ s u h.
+pub fields-returns-in_err-type_tree-in-Under : goal.fields-returns-in_err-type_tree-in-Under
+fields-returns-in_err-type_tree-in-Under t c = λ s u h.
     let j = is_under h c.in-Under.is in
-    by (fields_under _ _ _ j.whole) (stops _ c.from_residual.ensures.1 (c.in-err-type-tree.ensures s _ j.shown))
+    by (fields_under _ _ _ j.whole) (stops _ c.from_residual.ensures.1 (c.in_err-type_tree-in-Under.ensures s _ j.shown))
 
 pub fields-fields-requires : goal.fields-fields-requires
 fields-fields-requires t c =
     let p = below_left c.requires.tree c.in-Join.is in
     (omega arith, (p.within, (p.rooted, omega arith)))
 
-pub fields-returns-in-err-fields : goal.fields-returns-in-err-fields
-fields-returns-in-err-fields t c = λ s u h.
+pub fields-returns-in_err-fields-in-Join : goal.fields-returns-in_err-fields-in-Join
+fields-returns-in_err-fields-in-Join t c = λ s u h.
     let j = is_join h c.in-Join.is in
-    by (fields_join _ _ _ _ j.whole) (stops _ c.from-residual-in-err-fields.ensures.1 (c.in-err-fields.ensures s _ j.left_shown))
+    by (fields_join _ _ _ _ j.whole) (stops _ c.from_residual-in_err-fields-in-Join.ensures.1 (c.in_err-fields-in-Join.ensures s _ j.left_shown))
 
 pub fields-fields-requires-in-Join : goal.fields-fields-requires-in-Join
 fields-fields-requires-in-Join t c =
@@ -39,20 +39,20 @@ fields-returns-in-Blank t c = λ s u h. absurd (no_blank h c.in-Blank.is)
 pub fields-returns-in-Leaf : goal.fields-returns-in-Leaf
 fields-returns-in-Leaf t c = λ s u h. by (fields_leaf _ _ (is_leaf h c.in-Leaf.is)) (nothing)
 
-pub fields-returns-in-ok-type-tree : goal.fields-returns-in-ok-type-tree
-fields-returns-in-ok-type-tree t c = λ s u h.
+pub fields-returns-in_ok-type_tree-in-Under : goal.fields-returns-in_ok-type_tree-in-Under
+fields-returns-in_ok-type_tree-in-Under t c = λ s u h.
     let j = is_under h c.in-Under.is in
-    by (fields_under _ _ _ j.whole) (passes (c.in-ok-type-tree.ensures s _ j.shown) (ends c.node.ensures))
+    by (fields_under _ _ _ j.whole) (passes (c.in_ok-type_tree-in-Under.ensures s _ j.shown) (ends c.node.ensures))
 
-pub fields-returns-in-ok-fields : goal.fields-returns-in-ok-fields
-fields-returns-in-ok-fields t c = λ s u h.
+pub fields-returns-in_ok-fields-in-Join : goal.fields-returns-in_ok-fields-in-Join
+fields-returns-in_ok-fields-in-Join t c = λ s u h.
     let j = is_join h c.in-Join.is in
-    by (fields_join _ _ _ _ j.whole) (passes (c.in-ok-fields.ensures s _ j.left_shown) (ends (c.fields-in-Join.ensures s _ j.right_shown)))
+    by (fields_join _ _ _ _ j.whole) (passes (c.in_ok-fields-in-Join.ensures s _ j.left_shown) (ends (c.fields-in-Join.ensures s _ j.right_shown)))
 
-pub type-tree-returns-in-err-node : goal.type-tree-returns-in-err-node
-type-tree-returns-in-err-node t c = λ s u h.
+pub type_tree-returns-in_err-node-in-Under : goal.type_tree-returns-in_err-node-in-Under
+type_tree-returns-in_err-node-in-Under t c = λ s u h.
     let j = is_under h c.in-Under.is in
-    by (type_under _ _ _ j.whole) (stops _ c.from_residual.ensures.1 c.in-err-node.ensures)
+    by (type_under _ _ _ j.whole) (stops _ c.from_residual.ensures.1 c.in_err-node-in-Under.ensures)
 
 pub type_tree-fields-requires : goal.type_tree-fields-requires
 type_tree-fields-requires t c =
@@ -67,10 +67,10 @@ type_tree-type_tree-requires t c =
     let p = below_left c.requires.tree c.in-Join.is in
     (omega arith, (p.within, (p.rooted, omega arith)))
 
-pub type-tree-returns-in-err-type-tree : goal.type-tree-returns-in-err-type-tree
-type-tree-returns-in-err-type-tree t c = λ s u h.
+pub type_tree-returns-in_err-type_tree-in-Join : goal.type_tree-returns-in_err-type_tree-in-Join
+type_tree-returns-in_err-type_tree-in-Join t c = λ s u h.
     let j = is_join h c.in-Join.is in
-    by (type_join _ _ _ _ j.whole) (stops _ c.from-residual-in-err-type-tree.ensures.1 (c.in-err-type-tree.ensures s _ j.left_shown))
+    by (type_join _ _ _ _ j.whole) (stops _ c.from_residual-in_err-type_tree-in-Join.ensures.1 (c.in_err-type_tree-in-Join.ensures s _ j.left_shown))
 
 pub type_tree-returns-in-Blank : goal.type_tree-returns-in-Blank
 type_tree-returns-in-Blank t c = λ s u h. absurd (no_blank h c.in-Blank.is)
@@ -78,12 +78,12 @@ type_tree-returns-in-Blank t c = λ s u h. absurd (no_blank h c.in-Blank.is)
 pub type_tree-returns-in-Leaf : goal.type_tree-returns-in-Leaf
 type_tree-returns-in-Leaf t c = λ s u h. by (type_leaf _ _ (is_leaf h c.in-Leaf.is)) (ends c.node.ensures)
 
-pub type-tree-returns-in-ok-node : goal.type-tree-returns-in-ok-node
-type-tree-returns-in-ok-node t c = λ s u h.
+pub type_tree-returns-in_ok-node-in-Under : goal.type_tree-returns-in_ok-node-in-Under
+type_tree-returns-in_ok-node-in-Under t c = λ s u h.
     let j = is_under h c.in-Under.is in
-    by (type_under _ _ _ j.whole) (passes c.in-ok-node.ensures (ends (c.fields.ensures s _ j.shown)))
+    by (type_under _ _ _ j.whole) (passes c.in_ok-node-in-Under.ensures (ends (c.fields.ensures s _ j.shown)))
 
-pub type-tree-returns-in-ok-type-tree : goal.type-tree-returns-in-ok-type-tree
-type-tree-returns-in-ok-type-tree t c = λ s u h.
+pub type_tree-returns-in_ok-type_tree-in-Join : goal.type_tree-returns-in_ok-type_tree-in-Join
+type_tree-returns-in_ok-type_tree-in-Join t c = λ s u h.
     let j = is_join h c.in-Join.is in
-    by (type_join _ _ _ _ j.whole) (passes (c.in-ok-type-tree.ensures s _ j.left_shown) (ends c.node-in-Join.ensures))
+    by (type_join _ _ _ _ j.whole) (passes (c.in_ok-type_tree-in-Join.ensures s _ j.left_shown) (ends c.node-in-Join.ensures))

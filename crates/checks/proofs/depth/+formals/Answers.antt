@@ -31,20 +31,20 @@ type_tree-requires t c =
     let b = c.formal_type-its_type.ensures.before in
     record { within = rooted_within q; tree = q; room = omega arith }
 
-pub returns-in-err-type-tree : goal.returns-in-err-type-tree
-returns-in-err-type-tree t c = λ s u h.
+pub returns-in_err-type_tree-in-Under : goal.returns-in_err-type_tree-in-Under
+returns-in_err-type_tree-in-Under t c = λ s u h.
     let j = is_under h c.in-Under.is in
-    by (formals_under _ _ _ j.whole) (else_way c.if-is.ensures (stops _ c.from_residual.ensures.1 (c.in-err-type-tree.ensures s _ (c.formal_type-its_type.ensures.leads s _ j.shown))))
+    by (formals_under _ _ _ j.whole) (else_way c.if-is.ensures (stops _ c.from_residual.ensures.1 (c.in_err-type_tree-in-Under.ensures s _ (c.formal_type-its_type.ensures.leads s _ j.shown))))
 
 pub formals-requires-in-Join : goal.formals-requires-in-Join
 formals-requires-in-Join t c =
     let p = below_left c.requires.tree c.in-Join.is in
     (omega arith, (p.within, (p.rooted, omega arith)))
 
-pub returns-in-err-formals : goal.returns-in-err-formals
-returns-in-err-formals t c = λ s u h.
+pub returns-in_err-formals-in-Join : goal.returns-in_err-formals-in-Join
+returns-in_err-formals-in-Join t c = λ s u h.
     let j = is_join h c.in-Join.is in
-    by (formals_join _ _ _ _ j.whole) (stops _ c.from-residual-in-err-formals.ensures.1 (c.in-err-formals.ensures s _ j.left_shown))
+    by (formals_join _ _ _ _ j.whole) (stops _ c.from_residual-in_err-formals-in-Join.ensures.1 (c.in_err-formals-in-Join.ensures s _ j.left_shown))
 
 pub formals-requires-in-Join-2 : goal.formals-requires-in-Join-2
 formals-requires-in-Join-2 t c =
@@ -57,12 +57,12 @@ returns-in-Blank t c = λ s u h. absurd (no_blank h c.in-Blank.is)
 pub returns-in-Leaf : goal.returns-in-Leaf
 returns-in-Leaf t c = λ s u h. by (formals_leaf _ _ (is_leaf h c.in-Leaf.is)) (nothing)
 
-pub returns-in-ok-type-tree : goal.returns-in-ok-type-tree
-returns-in-ok-type-tree t c = λ s u h.
+pub returns-in_ok-type_tree-in-Under : goal.returns-in_ok-type_tree-in-Under
+returns-in_ok-type_tree-in-Under t c = λ s u h.
     let j = is_under h c.in-Under.is in
-    by (formals_under _ _ _ j.whole) (else_way c.if-is.ensures (passes (c.in-ok-type-tree.ensures s _ (c.formal_type-its_type.ensures.leads s _ j.shown)) (ends c.node.ensures)))
+    by (formals_under _ _ _ j.whole) (else_way c.if-is.ensures (passes (c.in_ok-type_tree-in-Under.ensures s _ (c.formal_type-its_type.ensures.leads s _ j.shown)) (ends c.node.ensures)))
 
-pub returns-in-ok-formals : goal.returns-in-ok-formals
-returns-in-ok-formals t c = λ s u h.
+pub returns-in_ok-formals-in-Join : goal.returns-in_ok-formals-in-Join
+returns-in_ok-formals-in-Join t c = λ s u h.
     let j = is_join h c.in-Join.is in
-    by (formals_join _ _ _ _ j.whole) (passes (c.in-ok-formals.ensures s _ j.left_shown) (ends (c.formals-in-Join-2.ensures s _ j.right_shown)))
+    by (formals_join _ _ _ _ j.whole) (passes (c.in_ok-formals-in-Join.ensures s _ j.left_shown) (ends (c.formals-in-Join-2.ensures s _ j.right_shown)))

@@ -5,4 +5,4 @@ use Rattle.meaning.specs.Types.{same_name}
 use Rattle.checks.proofs.names.is_same.Goals as goal
 
 pub returns : goal.returns
-returns c = same_from_decides _ _ (slice_eq-Decides Decides-eqb _ _ _ c.eq.ensures) (compares_Decides same_name (search rules) _ _)
+returns c = same_from_decides _ _ (slice_eq-Decides Decides-eqb _ _ _ c.eq.ensures) (compares_Decides same_name (search rules) c.args.a.now c.args.b.now)
