@@ -7,6 +7,7 @@ mod tokens;
 mod tree;
 
 use command::Command;
+use std::process::ExitCode;
 use std::{env, io};
 
 // Why the command ended with status 1; what was wrong is told before.
@@ -26,8 +27,15 @@ impl From<io::Error> for Ended {
     }
 }
 
-fn main(rt: HostRuntime) -> Result<(), Ended> {
-    let mut words = env::args(&rt)?;
+fn main(rt: HostRuntime) -> ExitCode {
+    match run(&rt) {
+        Ok(()) => ExitCode::SUCCESS,
+        Err(_) => ExitCode::FAILURE,
+    }
+}
+
+fn run(rt: &HostRuntime) -> Result<(), Ended> {
+    let mut words = env::args(rt)?;
     let _name = words.next();
     let verb = words.next();
     let file = words.next();
@@ -38,12 +46,12 @@ fn main(rt: HostRuntime) -> Result<(), Ended> {
             Ok(())
         }
         Command::Tokens(path) => {
-            let source = show::source(&rt, path.as_str())?;
-            tokens::list(&rt, source.as_slice())
+            let source = show::source(rt, path.as_str())?;
+            tokens::list(rt, source.as_slice())
         }
         Command::Tree(path) => {
-            let source = show::source(&rt, path.as_str())?;
-            tree::draw(&rt, source.as_slice())
+            let source = show::source(rt, path.as_str())?;
+            tree::draw(rt, source.as_slice())
         }
         Command::Unknown(word) => {
             eprintln!(rt;
