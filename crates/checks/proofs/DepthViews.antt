@@ -1,10 +1,9 @@
 -- The breaks of depth of each shape of tree, in the order in which the pass comes to them.
-use Rattle.std.proofs.Common.{◌≡◌, ℕ, suc, ◌+◌, Bool, true, false, cond, eqb, ltb, List, [], ◌∷◌, ◌++◌, sym, refl, ap, ◌∙◌, subst, append_assoc, append-nil, add-one, arith}
+use Rattle.std.proofs.Common.{◌≡◌, ℕ, suc, ◌+◌, Bool, true, false, cond, eqb, ltb, List, [], ◌∷◌, ◌++◌, sym, refl, ap, ◌∙◌, append_assoc, append-nil, add-one, arith}
 use Rattle.std.proofs.lemmas.Bool.{eqb-true}
-use Rattle.tiny.specs.declared.tokens.Kind.{Kind}
 use Rattle.tiny.specs.declared.tokens.Kind.TheVariants.{Name, TypeWord, ProcWord, IfWord, WhileWord, ReadWord, WriteWord, Open, Semicolon, Becomes, Index, Dot, Comma, DoubleAmpersand, At}
 use Rattle.tiny.specs.Token.{Token, is, code}
-use Rattle.tiny.specs.Tree.{TypeTree, Fields, Expression, Formals, Statement, Statements, DeclarationTrees, BlockTree}
+use Rattle.tiny.specs.Tree.{TypeTree, Fields, Expression, Formals, Statement, Statements, DeclarationTrees}
 use Rattle.syntax.specs.Shape.{Tree, token_of}
 use Rattle.syntax.specs.Shape.Tree.{leaf, under, join}
 use Rattle.syntax.specs.View.{expression, type_tree, fields, formals, by_reference, part_of, expressions, arguments, declarations, statements, branches, block}

@@ -1,7 +1,6 @@
 -- The breaks of names of each shape of tree, in the order in which the pass comes to them.
-use Rattle.std.proofs.Common.{◌≡◌, ℕ, Bool, true, false, cond, eqb, List, [], ◌∷◌, ◌++◌, sym, refl, ap, ◌∙◌, subst, append_assoc, append-nil, arith}
+use Rattle.std.proofs.Common.{◌≡◌, ℕ, Bool, true, false, cond, eqb, List, [], ◌∷◌, ◌++◌, sym, refl, ap, ◌∙◌, append_assoc, append-nil, arith}
 use Rattle.std.proofs.lemmas.Bool.{eqb-true}
-use Rattle.tiny.specs.declared.tokens.Kind.{Kind}
 use Rattle.tiny.specs.declared.tokens.Kind.TheVariants.{Name, TypeWord, ProcWord, IfWord, WhileWord, ReadWord, WriteWord, Open, Semicolon, Becomes, Index, Dot, Comma, DoubleAmpersand, At}
 use Rattle.tiny.specs.Token.{Token, is, code}
 use Rattle.tiny.specs.Tree as Tiny
@@ -12,7 +11,7 @@ use Rattle.syntax.specs.View.{expression, type_tree, fields, formals, by_referen
 use Rattle.meaning.specs.Stages as Stages
 use Rattle.meaning.specs.Stages.{Break, undeclared, twice, innermost, added, names, names_all, names_type, names_fields, names_formals, open_formals, names_statement, names_statements, names_declarations, names_block, open_declarations}
 use Rattle.checks.specs.Branches.{names_branches}
-use Rattle.checks.specs.Declares.{open_fields, names_procedure, new_names}
+use Rattle.checks.specs.Declares.{open_fields, names_procedure}
 use Rattle.checks.proofs.Steps.{Made, made}
 use Rattle.checks.proofs.Steps.Plan.{done, last, next, pick}
 

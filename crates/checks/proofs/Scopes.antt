@@ -1,5 +1,5 @@
 -- What the table of names says of the open scopes.
-use Rattle.std.proofs.Common.{◌≡◌, ℕ, zero, suc, ◌+◌, ◌-◌, ◌<◌, ◌≤◌, Bool, true, false, cond, List, [], ◌∷◌, ◌++◌, length, take, is_err, Some, None, Ok, Err, Option, Result, sym, refl, ap, ◌∙◌, subst, le_of_suc-le-suc, not-suc-le-zero, arith}
+use Rattle.std.proofs.Common.{◌≡◌, ℕ, zero, suc, ◌+◌, ◌-◌, ◌<◌, ◌≤◌, Bool, true, false, cond, List, [], ◌∷◌, ◌++◌, length, take, is_err, Some, None, Ok, Err, Result, sym, refl, ap, ◌∙◌, subst, le_of_suc-le-suc, not-suc-le-zero, arith}
 use Rattle.tiny.specs.declared.placed.Placed.{Placed}
 use Rattle.tiny.specs.declared.tokens.Lexeme.{Lexeme}
 use Rattle.tiny.specs.Scan.{token_in}
@@ -8,8 +8,7 @@ use Rattle.tables.specs.declared.nodes.Node.{Node}
 use Rattle.tables.specs.declared.table.Table.{Table}
 use Rattle.tables.specs.Items.{items, capacity, item_at}
 use Rattle.meaning.specs.Types.{same_name}
-use Rattle.meaning.specs.Stages.{Break, Open, has, known, innermost, added, undeclared, twice, break}
-use Rattle.checks.specs.declared.faults.NameCause.{NameCause}
+use Rattle.meaning.specs.Stages.{Open, has, known, innermost, added, undeclared, twice, break}
 use Rattle.checks.specs.declared.faults.NameCause.TheVariants.{Undeclared, Twice}
 use Rattle.checks.specs.Breaks.{Tells}
 use Rattle.checks.specs.declared.names.NameRecord.{NameRecord}

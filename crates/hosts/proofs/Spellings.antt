@@ -1,5 +1,5 @@
 -- What the test for a literal tells: the text is spelled as the source spells a literal.
-use Rattle.std.proofs.Common.{◌≡◌, ℕ, ◌<◌, ◌≤◌, Bool, true, false, cond, not, ◌&&◌, ◌||◌, eqb, leb, ◌⊎◌, List, [], ◌∷◌, sym, refl, ap, ◌∙◌, subst, inl, inr, ⊎_elim, arith}
+use Rattle.std.proofs.Common.{◌≡◌, ℕ, ◌≤◌, true, false, not, ◌||◌, eqb, leb, List, [], ◌∷◌, sym, refl, ap, subst, inl, inr, ⊎_elim, arith}
 use Rattle.std.proofs.lemmas.Bool.{false≢true, and_parts, and_from, cases_eq, cases_Bool, leb-true, le-leb, not-true, eqb-true, eqb-false, eq-eqb, ne_eqb, or_cases, or_left, or_right, or_from}
 use Rattle.tiny.specs.Spelling.{between, digit, Every, Numeral, nought, digits}
 use Rattle.hosts.specs.Parts.{are_digits, numeral, literal, Spelled, plain, signed}

@@ -1,11 +1,10 @@
 -- What a host means: items that wait to be read, marks written so far, room for marks, and how an event is rendered.
-use Rattle.std.specs.Prelude.{ℕ, zero, suc, ◌+◌, Bool, cond, List, [], ◌∷◌, ◌++◌, length, ℤ, pos, negsuc, Some, None, Ok, Err, Option, Result, nat_le}
+use Rattle.std.specs.Prelude.{ℕ, zero, suc, Bool, cond, List, [], ◌∷◌, ◌++◌, length, ℤ, pos, negsuc, Some, None, Ok, Err, Option, Result, nat_le}
 use Rattle.machine.specs.declared.host.NoRoom.{NoRoom}
 use Rattle.machine.specs.Ints.{Answer, gives, faults}
 use Rattle.machine.specs.declared.host.Item.{Item}
 use Rattle.machine.specs.declared.host.Item.TheVariants.{Number as number, Unreadable as unreadable}
 use Rattle.machine.specs.declared.host.Event.{Event}
-use Rattle.machine.specs.declared.host.Event.TheVariants.{Int as wrote_int, Bool as wrote_bool, Line as wrote_line}
 
 pub record Host : Type 0 where
   pub items : List Item

@@ -1,5 +1,5 @@
 -- Every part of the meaning, under two limits.
-use Rattle.std.proofs.Common.{◌≡◌, ℕ, zero, suc, ◌+◌, ◌-◌, ◌*◌, ◌<◌, ◌≤◌, Bool, true, false, not, leb, List, [], ◌∷◌, ◌++◌, length, take, replicate, ℤ, pos, refl, arith}
+use Rattle.std.proofs.Common.{◌≡◌, ℕ, zero, suc, ◌+◌, ◌*◌, ◌<◌, ◌≤◌, Bool, true, false, not, leb, List, [], ◌∷◌, ◌++◌, length, take, replicate, ℤ, pos, refl, arith}
 use Rattle.machine.specs.Ints.{Answer, gives, faults, unary_of, binary_of, is_zero, in_range, nat}
 use Rattle.machine.specs.Host.{as_int, as_bool}
 use Rattle.machine.specs.declared.host.Item.{Item}

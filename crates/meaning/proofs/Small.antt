@@ -1,5 +1,5 @@
 -- What the stage of sizes lets pass is small.
-use Rattle.std.proofs.Common.{ℕ, ◌+◌, Bool, true, false, T, List, [], ◌++◌, ℤ, pos}
+use Rattle.std.proofs.Common.{ℕ, Bool, true, false, T, List, [], ◌++◌, ℤ, pos}
 use Rattle.tiny.specs.Tree.{Name, Formals, Statement, Statements, DeclarationTrees, BlockTree}
 use Rattle.tiny.specs.Tree as Tree
 use Rattle.meaning.specs.Rule.{Place, Value, Block}

@@ -1,5 +1,5 @@
 -- What each stage finds wrong with a tree, as a list of numbers with their places.
-use Rattle.std.specs.Prelude.{ℕ, suc, ◌+◌, Bool, true, false, cond, List, [], ◌∷◌, ◌++◌, nat_lt}
+use Rattle.std.specs.Prelude.{ℕ, suc, Bool, true, false, cond, List, [], ◌∷◌, ◌++◌, nat_lt}
 use Rattle.tiny.specs.Tree.{Name, TypeTree, Fields, Expression, Formals, Statement, Statements, DeclarationTrees, BlockTree}
 use Rattle.tiny.specs.Tree as Tree
 use Rattle.meaning.specs.Types.{size, Typed, Formed, Meaning, Scope, same_name, type_of, form_of, meaning_of}

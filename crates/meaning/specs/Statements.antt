@@ -1,5 +1,5 @@
 -- The rules by which a statement and a block are sound, and the rule that a sound block makes.
-use Rattle.std.specs.Prelude.{ℕ, ◌+◌, Bool, true, false, cond, not, ◌&&◌, List, [], ◌∷◌, ◌++◌}
+use Rattle.std.specs.Prelude.{ℕ, Bool, true, false, cond, not, ◌&&◌, List, [], ◌∷◌, ◌++◌}
 use Rattle.tiny.specs.Tree.{Name, Expression, Formals, Statement, Statements, DeclarationTrees, BlockTree}
 use Rattle.tiny.specs.Tree as Tree
 use Rattle.meaning.specs.Types.{Ty, int, bool, size, fits, scalar, Meaning, Scope, Typed, Form, Formed, meaning_of, number_of, type_of, form_of, read_of, place, value, copies}

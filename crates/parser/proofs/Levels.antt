@@ -1,5 +1,5 @@
 -- Where the levels of expressions begin, and what goes on from them.
-use Rattle.std.proofs.Common.{◌≡◌, ℕ, suc, Bool, true, false, cond, List, [], ◌∷◌, ◌++◌, Ok, Err, Result, sym, refl, ap, ◌∙◌, subst}
+use Rattle.std.proofs.Common.{◌≡◌, ℕ, suc, Bool, true, false, cond, List, [], ◌∷◌, ◌++◌, Ok, Err, Result, refl, ap}
 use Rattle.std.proofs.lemmas.List.{append-nil}
 use Rattle.tiny.specs.declared.tokens.Kind.{Kind}
 use Rattle.tiny.specs.declared.tokens.Kind.TheVariants.{Index, Dot, Name, IndexEnd}
@@ -20,7 +20,7 @@ use Rattle.tables.specs.declared.nodes.Node.{Node}
 use Rattle.parser.specs.declared.cursor.Cursor.{Cursor}
 use Rattle.parser.specs.declared.faults.ParseFault.{ParseFault}
 use Rattle.parser.specs.Ahead.{ahead, source_of, stands, Took}
-use Rattle.parser.specs.Reading.{Read, Refused, Upto, Reads, selecting, instructing}
+use Rattle.parser.specs.Reading.{Reads, selecting, instructing}
 use Rattle.parser.proofs.Stand.{Stand, Slot, start, by, call, took, done}
 use Rattle.parser.proofs.Ways.{fails, gone, begun_with, only_right}
 

@@ -1,13 +1,13 @@
 -- How the tokens ahead go on as the scanner reads one more.
-use Rattle.std.proofs.Common.{◌≡◌, ℕ, ◌+◌, ◌-◌, ◌<◌, ◌≤◌, Bool, true, false, ◌||◌, ltb, ◌⊎◌, List, [], ◌∷◌, length, get_or, drop, Some, None, Ok, Err, Option, Result, sym, refl, ap, ◌∙◌, subst, inl, inr, arith}
+use Rattle.std.proofs.Common.{◌≡◌, ℕ, ◌+◌, ◌-◌, ◌<◌, ◌≤◌, Bool, true, false, ◌||◌, ltb, List, length, get_or, drop, Some, None, Ok, Err, Option, Result, sym, refl, ap, ◌∙◌, arith}
 use Rattle.std.proofs.lemmas.List.{drop_more, drop_all}
 use Rattle.tiny.specs.declared.tokens.Kind.{Kind}
 use Rattle.tiny.specs.declared.tokens.Lexeme.{Lexeme}
 use Rattle.tiny.specs.declared.placed.Placed.{Placed}
 use Rattle.tiny.specs.declared.faults.ScanCause.{ScanCause}
 use Rattle.tiny.specs.declared.faults.ScanCause.TheVariants.{TooLong}
-use Rattle.tiny.specs.Token.{Token, is}
-use Rattle.tiny.specs.Scan.{Scanned, scan, scan_from, left_of, token_in, with_token, Takes}
+use Rattle.tiny.specs.Token.{is}
+use Rattle.tiny.specs.Scan.{Scanned, scan, scan_from, left_of, Takes}
 use Rattle.tiny.specs.Scan.Scanned.{tokens, refused}
 use Rattle.parser.specs.Rest.{among, scanned, listed, scans, tokens_of}
 

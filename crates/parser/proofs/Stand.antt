@@ -1,8 +1,6 @@
 -- How far a function of the parser has come, step by step, against the parser of the specification.
-use Rattle.std.proofs.Common.{◌≡◌, ℕ, suc, ◌+◌, ◌<◌, ◌≤◌, Bool, true, false, cond, ◌||◌, ◌⊎◌, List, [], ◌∷◌, ◌++◌, length, get_or, IsErrAnd, Some, None, Ok, Err, Option, Result, sym, refl, ap, ◌∙◌, subst, inl, inr, append_assoc, arith, length-append}
+use Rattle.std.proofs.Common.{◌≡◌, ℕ, suc, ◌+◌, ◌<◌, ◌≤◌, Bool, true, false, cond, ◌||◌, List, [], ◌∷◌, ◌++◌, length, Some, None, Option, sym, refl, ap, ◌∙◌, subst, inl, inr, append_assoc, arith}
 use Rattle.std.proofs.lemmas.List.{get_or_push, length_push, append-nil}
-use Rattle.std.proofs.lemmas.Bool.{or_parts}
-use Rattle.std.proofs.lemmas.Result.{err_from_is_err_and}
 use Rattle.tiny.specs.declared.tokens.Kind.{Kind}
 use Rattle.tiny.specs.declared.tokens.Lexeme.{Lexeme}
 use Rattle.tiny.specs.declared.placed.Placed.{Placed}
@@ -10,13 +8,11 @@ use Rattle.tiny.specs.Token.{Token, is}
 use Rattle.tiny.specs.Scan.{token_in}
 use Rattle.syntax.specs.Shape.{Tree}
 use Rattle.syntax.specs.Shape.Tree.{leaf, under, join}
-use Rattle.syntax.specs.Grammar.{Sort, OneOf}
-use Rattle.syntax.specs.Parse.{Part, Tail, Symbol, Stack, Rule, State, Outcome, expect, further, rules, tail_rules, sort_rules, chosen, optional, may_lack, begun, fed, ended, run, dropped, pushed, undered, joined, titled, united}
-use Rattle.syntax.specs.Parse.Part.{whole, tail}
+use Rattle.syntax.specs.Grammar.{OneOf}
+use Rattle.syntax.specs.Parse.{Part, Symbol, Stack, rules, chosen, optional, begun, fed, run, dropped, pushed, undered, joined, titled, united}
 use Rattle.syntax.specs.Parse.Symbol.{token, part, make}
-use Rattle.syntax.specs.Parse.Outcome.{refuse}
 use Rattle.syntax.proofs.Telling.{All, pick, is_same}
-use Rattle.syntax.proofs.Steps.{onward, settled, heads, at_some, at_own, at_make}
+use Rattle.syntax.proofs.Steps.{onward, at_own, at_make}
 use Rattle.tables.specs.declared.table.Table.{Table}
 use Rattle.tables.specs.declared.nodes.Node.{Node}
 use Rattle.tables.specs.declared.nodes.Node.TheVariants.{Blank, Leaf, Under, Join}
@@ -25,10 +21,9 @@ use Rattle.tables.specs.Shows.{Shows}
 use Rattle.tables.specs.Shows.Shows.{leaf_at, under_at, join_at}
 use Rattle.tables.proofs.Parts.{grown, within}
 use Rattle.parser.specs.declared.cursor.Cursor.{Cursor}
-use Rattle.parser.specs.declared.faults.ParseFault.{ParseFault}
 use Rattle.parser.specs.Rest.{among}
-use Rattle.parser.specs.Ahead.{ahead, source_of, stands, refusal, Took, Expected}
-use Rattle.parser.specs.Reading.{Read, Refused, Upto, Room}
+use Rattle.parser.specs.Ahead.{ahead, source_of, Took}
+use Rattle.parser.specs.Reading.{Read, Room}
 use Rattle.parser.proofs.Scanning.{opposed}
 
 -- A tree that was read: record i shows it, or it has as yet no record for its token, a leaf or over one part.

@@ -1,5 +1,5 @@
 -- What the parser of the specification does at tokens of some kinds, and where there are none of them.
-use Rattle.std.proofs.Common.{◌≡◌, ℕ, suc, ◌+◌, ◌<◌, ◌≤◌, Bool, true, false, cond, ◌||◌, List, [], ◌∷◌, ◌++◌, length, IsErrAnd, Some, None, Ok, Err, Option, Result, sym, refl, ap, ◌∙◌, subst, append_assoc, arith}
+use Rattle.std.proofs.Common.{◌≡◌, ℕ, suc, ◌+◌, ◌≤◌, Bool, true, false, cond, ◌||◌, List, [], ◌∷◌, ◌++◌, length, IsErrAnd, Some, None, Ok, Err, Option, Result, sym, refl, ap, ◌∙◌, subst, append_assoc, arith}
 use Rattle.std.proofs.lemmas.List.{length_push}
 use Rattle.std.proofs.lemmas.Bool.{or_parts}
 use Rattle.tiny.specs.declared.tokens.Kind.{Kind}
@@ -10,7 +10,7 @@ use Rattle.tiny.specs.Scan.{token_in}
 use Rattle.syntax.specs.Grammar.{Sort, Bracket, contents, closing}
 use Rattle.syntax.specs.Grammar.Bracket.{braces, formal_parens, actual_parens}
 use Rattle.syntax.specs.Parse.{Part, Tail, Symbol, Stack, Rule, State, expect, further, behind, rules, tail_rules, sort_rules, chosen, optional, may_lack, begun, fed, ended, run, dropped, pushed, undered, joined}
-use Rattle.syntax.specs.Parse.Part.{whole, tail, rest}
+use Rattle.syntax.specs.Parse.Part.{rest}
 use Rattle.syntax.specs.Parse.Symbol.{token, part, make}
 use Rattle.syntax.specs.Parse.Outcome.{refuse}
 use Rattle.syntax.proofs.Telling.{All, is_same}
@@ -24,7 +24,7 @@ use Rattle.parser.specs.declared.cursor.Cursor.{Cursor}
 use Rattle.parser.specs.declared.faults.ParseFault.{ParseFault}
 use Rattle.parser.specs.Rest.{among}
 use Rattle.parser.specs.Ahead.{ahead, source_of, stands, refusal, Took}
-use Rattle.parser.specs.Reading.{Read, Refused, Upto}
+use Rattle.parser.specs.Reading.{Refused, Upto}
 use Rattle.parser.proofs.Scanning.{opposed}
 use Rattle.parser.proofs.Stand.{Stand, Slot, skip, by, then, took, made_leaf, put_join}
 use Rattle.parser.proofs.Stand.Slot.{at, bare}

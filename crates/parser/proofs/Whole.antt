@@ -1,14 +1,13 @@
 -- A whole source.
-use Rattle.std.proofs.Common.{◌≡◌, ℕ, ◌+◌, ◌-◌, ◌<◌, ◌≤◌, Bool, true, false, ltb, List, [], ◌∷◌, ◌++◌, length, take, Ok, Err, Result, sym, refl, ap, ◌∙◌, subst, arith, length-take}
+use Rattle.std.proofs.Common.{◌≡◌, ℕ, ◌-◌, ◌<◌, ◌≤◌, true, List, [], ◌∷◌, length, Ok, Err, Result, sym, refl, ap, ◌∙◌, subst, arith, length-take}
 use Rattle.std.proofs.lemmas.Bool.{lt-ltb, le-ltb}
 use Rattle.tiny.specs.declared.placed.Placed.{Placed}
 use Rattle.tiny.specs.declared.faults.ScanCause.{ScanCause}
 use Rattle.tiny.specs.Token.{Token}
 use Rattle.tiny.specs.Scan.{Scanned, counted}
 use Rattle.tiny.specs.Scan.Scanned.{tokens, refused}
-use Rattle.syntax.specs.Shape.{Tree}
 use Rattle.syntax.specs.Grammar.{block}
-use Rattle.syntax.specs.Parse.{Outcome, expect, run, parse}
+use Rattle.syntax.specs.Parse.{expect, run, parse}
 use Rattle.syntax.specs.Parse.Outcome.{accept, refuse}
 use Rattle.tables.specs.declared.table.Table.{Table}
 use Rattle.tables.specs.declared.nodes.Node.{Node}
@@ -19,7 +18,7 @@ use Rattle.parser.specs.declared.faults.ParseFault.{ParseFault}
 use Rattle.parser.specs.declared.faults.ParseFault.TheVariants.{Scan, Full}
 use Rattle.parser.specs.Rest.{scanned, listed}
 use Rattle.parser.specs.Ahead.{ahead, source_of, refusal, stopped}
-use Rattle.parser.specs.Reading.{Read, Refused, Room}
+use Rattle.parser.specs.Reading.{Read, Refused}
 use Rattle.parser.specs.Parsing.{Parsed, Answered, Fitting}
 use Rattle.parser.proofs.Scanning.{opposed}
 

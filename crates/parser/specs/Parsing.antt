@@ -1,5 +1,5 @@
 -- The answer to a whole source, and what it leaves in the table.
-use Rattle.std.specs.Prelude.{◌≡◌, ℕ, ◌-◌, Bool, true, false, List, [], ◌∷◌, ◌++◌, length, Ok, Err, Result, nat_lt}
+use Rattle.std.specs.Prelude.{◌≡◌, ℕ, ◌-◌, Bool, true, false, List, ◌++◌, length, Ok, Err, Result, nat_lt}
 use Rattle.tiny.specs.Scan.{Scanned}
 use Rattle.tiny.specs.Scan.Scanned.{tokens, refused}
 use Rattle.syntax.specs.Parse.{Outcome, parse}

@@ -1,5 +1,5 @@
 -- Lines and columns of a source. Both count from 1, a line ends with byte 10, and a column is a byte of its line.
-use Rattle.std.specs.Prelude.{ℕ, ◌+◌, ◌-◌, min, Bool, cond, not, List, [], ◌∷◌, length, take, drop, ◌==◌}
+use Rattle.std.specs.Prelude.{ℕ, ◌+◌, ◌-◌, min, cond, List, [], ◌∷◌, length, take, drop, ◌==◌}
 use Rattle.reports.specs.declared.lines.Location.{Location}
 
 -- how many lines end in these bytes

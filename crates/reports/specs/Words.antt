@@ -3,7 +3,6 @@ use Rattle.std.specs.Prelude.{ℕ, List, codes}
 use Rattle.tiny.specs.declared.faults.ScanCause.{ScanCause}
 use Rattle.tiny.specs.declared.faults.ScanCause.TheVariants.{TooLong, NoToken, TooLarge, TooMany}
 use Rattle.tiny.specs.declared.tokens.Class.{Class}
-use Rattle.tiny.specs.declared.tokens.Class.TheVariants as Class
 
 abbrev pub cause_words : ScanCause → List ℕ
 cause_words TooLong = codes "the source is longer than 16384 bytes"

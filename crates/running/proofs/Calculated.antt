@@ -1,8 +1,7 @@
 -- What is calculated on the operands is the instruction's effect.
-use Rattle.std.proofs.Common.{◌≡◌, ℕ, zero, suc, ◌+◌, ◌^◌, Bool, true, false, cond, ltb, leb, List, [], ◌∷◌, length, get_or, ℤ, pos, negsuc, ◌+ℤ◌, ◌*ℤ◌, Ok, Err, Result, sym, refl, ap, ◌∙◌, subst, arith}
+use Rattle.std.proofs.Common.{◌≡◌, ℕ, ◌+◌, ◌^◌, Bool, true, false, cond, ltb, leb, List, [], ◌∷◌, length, get_or, ℤ, pos, negsuc, ◌+ℤ◌, ◌*ℤ◌, Ok, Err, sym, refl, ap, subst, arith}
 use Rattle.std.proofs.lemmas.Bool.{false≢true}
 use Rattle.machine.specs.declared.fault.Fault.{Fault}
-use Rattle.running.specs.declared.flow.Flow.{Flow}
 use Rattle.running.specs.declared.flow.Flow.TheVariants.{Next}
 use Rattle.machine.specs.declared.instruction.Instruction.{Instruction}
 use Rattle.machine.specs.declared.instruction.Instruction.TheVariants.{Lit, Var, Off, Ld, St, Stk, Copy, Index, Add, Sub, Mul, Div, Mod, Neg, Not, And, Or, Lt, Le, Gt, Ge, Eq, Ne, Jmp, Jf, Geti, Getb, Puti, Putb, Nl, Zero, Frame, Enter, Leave, Dup, Pop, Stop}
@@ -11,7 +10,7 @@ use Rattle.machine.specs.Ints.{Answer, gives, faults, unary_of, binary_of, in_ra
 use Rattle.running.specs.Stacks.{Became}
 use Rattle.machine.specs.Machine.{Machine, Effect, goes, fails, on, one, two, room, made, within, settled, unary, binary, effect}
 use Rattle.running.specs.Running.{Went}
-use Rattle.running.specs.Calculations.{Outcome, with_one, with_two, answered, pushed, address, content, beyond, loaded, element, indexed, combined, turned, doubled, dropped, calculated, plain}
+use Rattle.running.specs.Calculations.{Outcome, with_one, with_two, answered, pushed, address, content, beyond, loaded, indexed, combined, turned, dropped, calculated, plain}
 
 abbrev lifted : Machine → Outcome → Effect
 lifted m (Ok ops) = goes (on m ops)

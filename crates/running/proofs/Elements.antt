@@ -1,10 +1,9 @@
 -- Laws of the address of an element: the sum is made in 64 bits, and they suffice.
-use Rattle.std.proofs.Common.{◌≡◌, ℕ, suc, ◌-◌, ◌*◌, ◌^◌, ◌<◌, ◌≤◌, true, false, cond, ltb, ℤ, pos, negsuc, ◌+ℤ◌, ◌*ℤ◌, nat_abs, Result, refl, ap, ◌∙◌, mul-le-mul, arith, w32, w64, SFits, to_z, of_z}
-use lib.Signed.{lt_z, mag}
+use Rattle.std.proofs.Common.{◌≡◌, ℕ, suc, ◌-◌, ◌*◌, ◌^◌, ◌<◌, ◌≤◌, true, false, cond, ltb, ℤ, pos, negsuc, ◌+ℤ◌, ◌*ℤ◌, nat_abs, Result, ap, mul-le-mul, arith, w32, w64, SFits, to_z, of_z}
+use lib.Signed.{lt_z}
 use Rattle.std.proofs.lemmas.Int.{to_z-of_z, to_z_pos}
 use Rattle.std.proofs.lemmas.Bool.{false≢true, lt-ltb, cond_both}
 use Rattle.machine.specs.declared.fault.Fault.{Fault}
-use Rattle.machine.specs.Ints.{in_range}
 use Rattle.machine.specs.Faults.{Answered}
 use Rattle.running.specs.Calculations.{address, element}
 

@@ -1,5 +1,5 @@
 -- Laws of an array with a depth, as a list of operands.
-use Rattle.std.proofs.Common.{◌≡◌, ℕ, ◌+◌, ◌-◌, ◌<◌, ◌≤◌, List, [], ◌∷◌, ◌++◌, reverse, length, get_or, take, set, ℤ, pos, sym, refl, ap, ◌∙◌, arith, length-take}
+use Rattle.std.proofs.Common.{◌≡◌, ℕ, ◌+◌, ◌-◌, ◌<◌, ◌≤◌, List, [], ◌∷◌, reverse, length, get_or, take, set, ℤ, pos, ap, ◌∙◌, arith, length-take}
 use mathlib.Core.List.{reverse-append}
 use lib.ListN.{length-reverse}
 use Rattle.std.proofs.lemmas.List.{take_more, take_more_set}

@@ -1,9 +1,9 @@
 -- Laws of cells that are cleared or copied one by one.
-use Rattle.std.proofs.Common.{◌≡◌, ℕ, zero, suc, ◌+◌, ◌-◌, ◌<◌, ◌≤◌, List, [], ◌∷◌, ◌++◌, length, get_or, take, drop, set, replicate, ℤ, pos, sym, refl, ap, ◌∙◌, append_assoc, le_of_suc-le-suc, not-suc-le-zero, add-zero, add-one, arith, length-drop, length-take, get_or-drop, drop-cons, get_or-take}
+use Rattle.std.proofs.Common.{◌≡◌, ℕ, zero, suc, ◌+◌, ◌-◌, ◌<◌, ◌≤◌, List, [], ◌∷◌, ◌++◌, length, get_or, take, drop, set, replicate, ℤ, pos, sym, refl, ap, ◌∙◌, append_assoc, le_of_suc-le-suc, not-suc-le-zero, add-zero, arith, length-drop, length-take, get_or-drop, drop-cons, get_or-take}
 use lib.ListN.{length-replicate}
 use lib.Seq.{paste}
 use Rattle.std.proofs.lemmas.List.{take-append-drop}
-use Rattle.std.proofs.lemmas.List.Edits.{paste_none, paste_more, paste_all, drop-paste, length-paste, fill_from_more}
+use Rattle.std.proofs.lemmas.List.Edits.{paste_more, paste_all, drop-paste}
 use Rattle.machine.specs.Cells.{zeroed, moved}
 
 -- what is cleared

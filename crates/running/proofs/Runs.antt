@@ -1,9 +1,8 @@
 -- Laws of runs: one that is going takes a step, and one that has ended stays.
-use Rattle.std.proofs.Common.{◌≡◌, ℕ, zero, suc, ◌+◌, ◌-◌, ◌<◌, ◌≤◌, List, sym, refl, ap, ◌∙◌, subst, add-zero, add-suc, add-one, arith}
+use Rattle.std.proofs.Common.{◌≡◌, ℕ, zero, suc, ◌+◌, ◌-◌, ◌≤◌, List, sym, refl, ap, ◌∙◌, subst, add-zero, add-suc, add-one, arith}
 use Rattle.machine.specs.declared.instruction.Instruction.{Instruction}
 use Rattle.running.specs.declared.advance.Standing.{Standing}
 use Rattle.running.specs.declared.advance.Standing.TheVariants.{Going, Finished, Failed}
-use Rattle.machine.specs.Faults.{fault_number}
 use Rattle.machine.specs.Shelves.{fetched}
 use Rattle.machine.specs.Machine as Spec
 use Rattle.machine.specs.Machine.{Machine, Effect, goes, stops, fails, Run, going, finished, failed, attempted, after, one_more, run}

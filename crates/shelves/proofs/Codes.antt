@@ -1,5 +1,5 @@
 -- Laws of codes as lists: what a fetch answers, what is lawful, and what a put does.
-use Rattle.std.proofs.Common.{◌≡◌, ℕ, zero, suc, ◌+◌, ◌<◌, ◌≤◌, min, Bool, true, false, cond, ◌&&◌, List, [], ◌∷◌, ◌++◌, length, get_or, take, IfSome, Some, None, Ok, Err, sym, refl, ap, ◌∙◌, le_of_suc-le-suc, not-suc-le-zero, arith, length-take}
+use Rattle.std.proofs.Common.{◌≡◌, ℕ, zero, suc, ◌+◌, ◌<◌, ◌≤◌, true, List, [], ◌∷◌, ◌++◌, length, get_or, take, IfSome, Some, None, Ok, Err, refl, ◌∙◌, le_of_suc-le-suc, not-suc-le-zero, arith, length-take}
 use Rattle.std.proofs.lemmas.Bool.{le-leb, lt-leb, and_parts, and_from}
 use Rattle.machine.specs.declared.instruction.Instruction.{Instruction}
 use Rattle.machine.specs.declared.shelf.PutRefusal.TheVariants.{Full}

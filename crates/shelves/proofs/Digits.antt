@@ -1,5 +1,5 @@
 -- Laws of numbers in groups of seven bits.
-use Rattle.std.proofs.Common.{◌≡◌, ℕ, zero, suc, ◌+◌, ◌-◌, ◌*◌, ◌/◌, ◌%◌, ◌^◌, ◌<◌, ◌≤◌, Bool, true, false, cond, ltb, ◌⊎◌, List, [], ◌∷◌, ◌++◌, length, get_or, take, drop, Some, None, sym, refl, ap, ◌∙◌, ⊎_elim, le_trans, lt_of_lt_of_le, le_of_suc-le-suc, not-suc-le-zero, add-one, arith, length-drop, length-take, drop-cons, drop_at, pow_mono}
+use Rattle.std.proofs.Common.{◌≡◌, ℕ, zero, suc, ◌+◌, ◌-◌, ◌*◌, ◌/◌, ◌%◌, ◌^◌, ◌<◌, ◌≤◌, ltb, List, [], ◌∷◌, ◌++◌, length, get_or, take, drop, Some, None, sym, refl, ap, ◌∙◌, ⊎_elim, le_trans, lt_of_lt_of_le, le_of_suc-le-suc, not-suc-le-zero, add-one, arith, length-drop, length-take, drop-cons, drop_at, pow_mono}
 use lib.Count.{count_leading_zeros, leading_length}
 use Rattle.std.proofs.lemmas.Bool.{lt-ltb, le-ltb, cases_lt, cond_both}
 use Rattle.shelves.specs.Groups.{coded, groups, raised, read_at, limit}

@@ -1,5 +1,5 @@
 -- Laws of bytes: what was encoded is read back, and what it costs.
-use Rattle.std.proofs.Common.{◌≡◌, ℕ, zero, suc, ◌+◌, ◌-◌, ◌*◌, ◌<◌, ◌≤◌, Bool, true, false, cond, ◌&&◌, ltb, List, [], ◌∷◌, ◌++◌, length, get_or, take, drop, IfSome, Some, None, Option, sym, refl, ap, ◌∙◌, append_assoc, append-nil, le_of_suc-le-suc, not-suc-le-zero, add-one, arith, length-append, length-drop, length-take, drop-cons, drop-drop, drop_at}
+use Rattle.std.proofs.Common.{◌≡◌, ℕ, zero, suc, ◌+◌, ◌-◌, ◌*◌, ◌<◌, ◌≤◌, true, cond, ltb, List, [], ◌∷◌, ◌++◌, length, get_or, take, drop, IfSome, Some, None, Option, sym, refl, ap, ◌∙◌, append_assoc, append-nil, le_of_suc-le-suc, not-suc-le-zero, add-one, arith, length-append, length-drop, length-take, drop-cons, drop-drop, drop_at}
 use lib.Seq.{paste}
 use Rattle.std.specs.List.{flat_map, AllByRecursion as All}
 use Rattle.std.proofs.lemmas.List.Edits.{take-paste}
@@ -12,7 +12,7 @@ use Rattle.machine.specs.Shelves.{total, fetched}
 use Rattle.shelves.proofs.Codes.{lawful_push}
 use Rattle.machine.specs.declared.instruction.Instruction.{Instruction}
 use Rattle.shelves.specs.Parts.{raws, padded, arity, instruction_of}
-use Rattle.shelves.specs.Bytes.{encoded, encoded_all, byte_cost, after, number_at, operand_at, operands_at, assembled, instruction_at, nth_from, going_on_from, decoded_from, decoded}
+use Rattle.shelves.specs.Bytes.{encoded, encoded_all, byte_cost, after, number_at, operands_at, assembled, instruction_at, nth_from, going_on_from, decoded_from, decoded}
 use Rattle.shelves.proofs.Views.{seen, operands_short, operands_few}
 
 -- what follows a stretch of bytes

@@ -1,5 +1,5 @@
 -- An instruction as a number and at most three operands without a sign.
-use Rattle.std.specs.Prelude.{ℕ, min, Bool, true, false, cond, ◌||◌, List, [], ◌∷◌, map, Some, None, Option, ◌==◌, slice_index, slice_index_or}
+use Rattle.std.specs.Prelude.{ℕ, min, cond, ◌||◌, List, [], ◌∷◌, map, Some, None, Option, ◌==◌, slice_index, slice_index_or}
 use Rattle.shelves.specs.Groups.{zigzag, unzigzag}
 use Rattle.machine.specs.Instructions.{Operand, value, level, number, view}
 use Rattle.machine.specs.declared.instruction.Instruction.{Instruction}

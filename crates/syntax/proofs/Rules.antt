@@ -4,7 +4,7 @@ use Rattle.tiny.specs.declared.tokens.Kind.{Kind}
 use Rattle.tiny.specs.declared.tokens.Kind.TheVariants.{Name}
 use Rattle.tiny.specs.Token.{Token, truths, prefixes, factors, relations, basic_types}
 use Rattle.syntax.specs.Shape.{Tree}
-use Rattle.syntax.specs.Grammar.{Sort, Listed, Bracket, Derives, Is, OneOf, block, item, contents, opening, closing}
+use Rattle.syntax.specs.Grammar.{Sort, Listed, Bracket, Derives, Is, OneOf, block, item, contents, closing}
 use Rattle.syntax.specs.Grammar.Sort.{e0, e1, e2, e3, e4, e5, e6, basic, type, field, formal, declaration, statement, branches, content, list, enclosed}
 use Rattle.syntax.specs.Grammar.Listed.{declarations, statements, formals, fields, arguments}
 use Rattle.syntax.specs.Grammar.Bracket.{braces}
@@ -12,7 +12,7 @@ use Rattle.syntax.specs.Grammar.{Derives as D}
 use Rattle.syntax.specs.Parse.{Part, Tail, Symbol, Stack, Rule, ◌⟶◌, each, behind, expect, further, rules, sort_rules, tail_rules, basic_rules, e6_rules, prefix_rules, e5_rules, e4_rules, e3_rules, e2_rules, e1_rules, e0_rules, simple_type_rules, type_rules, field_rules, formal_rules, naming_rules, declaration_rules, enclosed_rules, branches_rules, word_rules, statement_rules, item_rules, list_rules, content_rules, pushed, undered, joined, united, dropped, grown}
 use Rattle.syntax.specs.Parse.Part.{whole, rest, tail}
 use Rattle.syntax.specs.Parse.Tail.{postfix?, factor?, logic?, minus?, plus?, relation?, assign?, array?, else?, statements?, more?, formal_name, section_tail}
-use Rattle.syntax.specs.Parse.Symbol.{token, part, make}
+use Rattle.syntax.specs.Parse.Symbol.{token, make}
 use Rattle.syntax.proofs.Reading.{Declared, Before, made_of, Reads, Means, split}
 use Rattle.syntax.proofs.Reading.Declared.{section}
 use Rattle.syntax.proofs.Reading.Reads.{got, closed, turned, astray}

@@ -7,7 +7,7 @@ use Rattle.tiny.specs.Token.{Token, is}
 use Rattle.syntax.specs.Shape.{Tree}
 use Rattle.syntax.specs.Grammar.{Sort, Bracket, Is, OneOf, contents, closing}
 use Rattle.syntax.specs.Parse.{Part, Tail, Symbol, Stack, Rule, State, Outcome, ◌⟶◌, expect, further, behind, rules, sort_rules, tail_rules, chosen, optional, may_lack, begun, fed, ended, run, top, pushed, undered, dropped}
-use Rattle.syntax.specs.Parse.Part.{rest, tail}
+use Rattle.syntax.specs.Parse.Part.{rest}
 use Rattle.syntax.specs.Parse.Symbol.{token, part, make}
 use Rattle.syntax.specs.Parse.Outcome.{accept, refuse}
 use Rattle.syntax.proofs.Telling.{All, pick, is_same}

@@ -1,8 +1,8 @@
 -- Worked examples: short sources, and the rules that they are, or where they are refused.
-use Rattle.std.specs.Prelude.{◌≡◌, ℕ, true, false, List, [], ◌∷◌, pos, negsuc, codes}
+use Rattle.std.specs.Prelude.{◌≡◌, ℕ, true, false, [], ◌∷◌, pos, negsuc, codes}
 use Rattle.tiny.specs.declared.faults.ScanCause.TheVariants.{NoToken}
 use Rattle.tiny.specs.Operators.{Unary, Binary}
-use Rattle.tiny.specs.Tree.{TypeTree, Fields, Expression, Formals, Statement, Statements, DeclarationTrees, BlockTree, int_type, bool_type, named, array, struct, no_field, field_of, number, truth, name, assign, binary, unary, index, select, no_formal, formal, eval, if_then, if_else, while, write, nl, call, compound, no_statement, statement, no_declaration, variable, type_name, procedure, block}
+use Rattle.tiny.specs.Tree.{Expression, Statement, Statements, BlockTree, int_type, bool_type, named, array, struct, no_field, field_of, number, truth, name, assign, binary, unary, index, select, no_formal, formal, eval, if_else, while, write, nl, call, compound, no_statement, statement, no_declaration, variable, type_name, procedure, block}
 use Rattle.syntax.specs.Source.{read, unscanned, unparsed, rule}
 
 -- a block of instructions alone

@@ -1,5 +1,5 @@
 -- Laws of the items of a list.
-use Rattle.std.proofs.Common.{◌≡◌, ℕ, zero, suc, ◌<◌, ◌≤◌, min, List, [], ◌∷◌, ◌++◌, length, get_or, take, Some, None, refl, ap, le_of_suc-le-suc, not-suc-le-zero, arith, length-take}
+use Rattle.std.proofs.Common.{◌≡◌, ℕ, zero, suc, ◌<◌, ◌≤◌, List, [], ◌∷◌, length, get_or, take, Some, None, refl, ap, le_of_suc-le-suc, not-suc-le-zero, arith, length-take}
 use Rattle.tables.specs.declared.table.Table.{Table}
 use Rattle.tables.specs.Items.{items, capacity, item_at}
 

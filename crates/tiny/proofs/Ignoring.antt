@@ -1,9 +1,9 @@
 -- What the scanner passes over is what is ignored.
-use Rattle.std.proofs.Common.{◌≡◌, ℕ, zero, suc, ◌+◌, ◌<◌, ◌≤◌, Bool, true, false, cond, not, ◌&&◌, eqb, ◌⊎◌, List, [], ◌∷◌, ◌++◌, length, drop, Some, None, Option, sym, refl, ap, ◌∙◌, subst, ap₂, inl, inr, arith}
-use Rattle.std.proofs.lemmas.Bool.{eqb-true, eq-eqb, and_parts, true≢false, false≢true, not-false}
+use Rattle.std.proofs.Common.{◌≡◌, ℕ, suc, Bool, true, false, cond, not, ◌&&◌, eqb, List, [], ◌∷◌, ◌++◌, drop, Some, None, Option, sym, refl, ap, ◌∙◌, subst, ap₂, arith}
+use Rattle.std.proofs.lemmas.Bool.{eqb-true, eq-eqb, and_parts, true≢false, false≢true}
 use Rattle.tiny.specs.Spelling.{Every, blank, in_line, LineEnds, Ignored}
 use Rattle.tiny.specs.Spelling.Ignored.{nothing, blanks, comment}
-use Rattle.tiny.specs.Automaton.{hash, ignore, skip}
+use Rattle.tiny.specs.Automaton.{hash, skip}
 
 -- the bytes that are left
 abbrev left : Bool → List ℕ → List ℕ

@@ -1,8 +1,8 @@
 -- The scanner goes as far into a token as any token goes.
-use Rattle.std.proofs.Common.{◌≡◌, ℕ, zero, suc, ◌+◌, ◌<◌, ◌≤◌, Bool, true, false, cond, eqb, ◌⊎◌, List, [], ◌∷◌, length, take, Some, None, Option, sym, refl, ap, ◌∙◌, subst, inl, inr, arith}
+use Rattle.std.proofs.Common.{◌≡◌, ℕ, zero, suc, ◌<◌, ◌≤◌, Bool, true, false, cond, eqb, List, [], ◌∷◌, length, take, Some, None, Option, sym, refl, ap, ◌∙◌, subst, inl, inr, arith}
 use Rattle.std.proofs.lemmas.Bool.{cases_order}
 use Rattle.tiny.specs.declared.tokens.Kind.{Kind}
-use Rattle.tiny.specs.declared.tokens.Kind.TheVariants.{Literal, NotEqual, DoubleAmpersand}
+use Rattle.tiny.specs.declared.tokens.Kind.TheVariants.{Literal, DoubleAmpersand}
 use Rattle.tiny.specs.declared.states.State.{State}
 use Rattle.tiny.specs.declared.states.State.TheVariants.{Start, Word, Zero, Digits, Sign, Order, Bang, Amp, Whole}
 use Rattle.tiny.specs.Spelling.{digit, Spells}

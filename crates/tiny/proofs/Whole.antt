@@ -1,5 +1,5 @@
 -- The scan of a source is what the spelling of its tokens says.
-use Rattle.std.proofs.Common.{◌≡◌, ℕ, zero, suc, ◌+◌, ◌-◌, ◌<◌, ◌≤◌, Bool, true, false, cond, ◌&&◌, eqb, leb, ◌⊎◌, List, [], ◌∷◌, length, take, drop, ℤ, Some, None, Ok, Err, Option, Result, sym, refl, ap, ◌∙◌, subst, ap₂, inl, inr, arith}
+use Rattle.std.proofs.Common.{◌≡◌, ℕ, zero, suc, ◌+◌, ◌-◌, ◌<◌, ◌≤◌, Bool, true, false, cond, ◌&&◌, eqb, List, [], ◌∷◌, length, take, drop, ℤ, Some, None, Ok, Err, Option, sym, refl, ap, ◌∙◌, subst, ap₂, inl, inr, arith}
 use Rattle.std.proofs.lemmas.List.{length-drop, drop-drop, drop_all}
 use Rattle.std.proofs.lemmas.Bool.{cases_lt, lt-leb, eqb-true, or_cases}
 use Rattle.tiny.specs.declared.tokens.Kind.{Kind}
@@ -8,9 +8,8 @@ use Rattle.tiny.specs.declared.states.State.{State}
 use Rattle.tiny.specs.declared.states.State.TheVariants.{Start}
 use Rattle.tiny.specs.Spelling.{blank, Ignored, meaning}
 use Rattle.tiny.specs.Automaton.{begin, reach, hash, ignore, skip}
-use Rattle.tiny.specs.Scan.{formed, lexed, Scanned, with_token, token, scan_from, scan}
-use Rattle.tiny.specs.Scan.Scanned.{tokens, refused}
-use Rattle.tiny.specs.Law.{Longest, Stuck, Scans, ScanIs, OneKind}
+use Rattle.tiny.specs.Scan.{formed, lexed, Scanned, with_token, token, scan_from}
+use Rattle.tiny.specs.Law.{Longest, Scans, ScanIs, OneKind}
 use Rattle.tiny.specs.Law.Scans.{ends, no_token, too_many, too_large, reads}
 use Rattle.tiny.proofs.Reach.{on, skip_within}
 use Rattle.tiny.proofs.Lexed.{from, here, lexed_end, skip_in}

@@ -1,5 +1,5 @@
 -- What the scanner has to do with the spelling of tokens.
-use Rattle.std.specs.Prelude.{◌≡◌, ℕ, zero, suc, ◌+◌, ◌<◌, ◌≤◌, ◌⊎◌, ◌↔◌, List, [], ◌∷◌, length, take, drop, ℤ, Some, None}
+use Rattle.std.specs.Prelude.{◌≡◌, ℕ, zero, suc, ◌+◌, ◌<◌, ◌≤◌, ◌⊎◌, ◌↔◌, List, [], length, take, drop, ℤ, Some, None}
 use Rattle.tiny.specs.declared.faults.ScanCause.TheVariants.{NoToken, TooLarge, TooLong, TooMany}
 use Rattle.tiny.specs.declared.tokens.Kind.{Kind}
 use Rattle.tiny.specs.Spelling.{Spells, Ignored, meaning}

@@ -1,5 +1,5 @@
 -- The next token of a source, and all of them.
-use Rattle.std.specs.Prelude.{◌≡◌, ℕ, zero, suc, ◌+◌, ◌-◌, ◌≤◌, Bool, true, false, List, [], ◌∷◌, length, take, drop, ℤ, pos, Some, None, Ok, Err, Option, Result, nat_le, nat_lt}
+use Rattle.std.specs.Prelude.{◌≡◌, ℕ, zero, suc, ◌+◌, ◌-◌, ◌≤◌, true, false, List, [], ◌∷◌, length, take, drop, ℤ, Some, None, Ok, Err, Option, Result, nat_le, nat_lt}
 use Rattle.tiny.specs.declared.faults.ScanCause.TheVariants.{TooLong, NoToken, TooLarge, TooMany}
 use Rattle.tiny.specs.declared.tokens.Kind.{Kind}
 use Rattle.tiny.specs.Token.{Token}

@@ -1,5 +1,5 @@
 -- A source that is parsed has a tree in the table.
-use Rattle.std.proofs.Common.{◌≡◌, ℕ, Bool, true, false, List, [], ◌∷◌, Some, None, Ok, Err, Option, Result, sym, refl, ap, ◌∙◌, subst, arith}
+use Rattle.std.proofs.Common.{◌≡◌, ℕ, Bool, true, false, List, [], ◌∷◌, None, Ok, sym, refl, subst, arith}
 use Rattle.tiny.specs.Scan.{Scanned}
 use Rattle.tiny.specs.Scan.Scanned.{tokens, refused}
 use Rattle.syntax.specs.Parse.{Outcome}
@@ -8,7 +8,6 @@ use Rattle.tables.specs.declared.table.Table.{Table}
 use Rattle.tables.specs.declared.nodes.Node.{Node}
 use Rattle.tables.specs.Items.{items}
 use Rattle.tables.specs.Shows.{Shows}
-use Rattle.parser.specs.declared.faults.ParseFault.{ParseFault}
 use Rattle.parser.specs.Parsing.{Answered, Fitting, Parsed}
 use Rattle.checks.specs.Rooted.{Rooted}
 use Rattle.meaning.specs.Stages.{Break}

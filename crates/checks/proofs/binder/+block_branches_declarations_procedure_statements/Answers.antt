@@ -1,4 +1,4 @@
-use Rattle.std.proofs.Common.{◌≡◌, ◌+◌, [], ◌∷◌, ◌++◌, sym, refl, ap, ◌∙◌, subst, arith}
+use Rattle.std.proofs.Common.{◌+◌, [], ◌∷◌, ◌++◌, sym, refl, ap, ◌∙◌, subst, arith}
 use Rattle.tiny.specs.Tree.{Formals, DeclarationTrees}
 use Rattle.syntax.specs.Shape.{token_of}
 use Rattle.syntax.specs.View.{formals, part_of, declarations, block}

@@ -1,6 +1,6 @@
 use Rattle.std.proofs.Common.{arith}
 use Rattle.checks.proofs.NamesViews.{all_leaf, all_under, all_join}
-use Rattle.checks.proofs.Shown.{no_blank, is_leaf, is_under, is_join, within}
+use Rattle.checks.proofs.Shown.{no_blank, is_leaf, is_under, is_join}
 use Rattle.checks.proofs.Steps.{ends, passes, stops, then_way, else_way, by}
 use Rattle.checks.proofs.Ready.{below_left, below_right}
 use Rattle.checks.proofs.binder.+expressions.Goals as goal

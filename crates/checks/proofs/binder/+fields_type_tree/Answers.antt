@@ -1,4 +1,4 @@
-use Rattle.std.proofs.Common.{◌≡◌, ◌≤◌, [], sym, refl, ap, ◌∙◌, subst, arith}
+use Rattle.std.proofs.Common.{[], sym, refl, ap, ◌∙◌, subst, arith}
 use Rattle.tiny.specs.Tree.{Fields}
 use Rattle.syntax.specs.Shape.{size}
 use Rattle.syntax.specs.View.{fields}

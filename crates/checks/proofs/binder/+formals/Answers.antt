@@ -1,4 +1,4 @@
-use Rattle.std.proofs.Common.{◌≡◌, cond, sym, refl, ap, ◌∙◌, subst, arith}
+use Rattle.std.proofs.Common.{cond, sym, refl, ap, ◌∙◌, subst, arith}
 use Rattle.tiny.specs.Tree.{Formals}
 use Rattle.syntax.specs.Shape.{size}
 use Rattle.syntax.specs.View.{formals, part_of, by_reference}

@@ -1,5 +1,5 @@
 use Rattle.checks.proofs.NamesViews.{arguments_leaf, arguments_under, arguments_join}
-use Rattle.checks.proofs.Shown.{no_blank, is_leaf, is_under, is_join, within}
+use Rattle.checks.proofs.Shown.{no_blank, is_leaf, is_under, is_join}
 use Rattle.checks.proofs.Steps.{nothing, ends, by}
 use Rattle.checks.proofs.Ready.{below_part}
 use Rattle.checks.proofs.binder.arguments.Goals as goal

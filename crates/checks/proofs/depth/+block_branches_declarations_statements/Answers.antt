@@ -2,7 +2,7 @@ use Rattle.std.proofs.Common.{◌+◌, cond, ltb, ap, arith, rules}
 use Rattle.checks.proofs.DepthViews.{declarations_leaf, declarations_under, declarations_join, statements_leaf, statements_under, statements_join, branches_leaf, branches_under, branches_join, block_leaf, block_under, block_join}
 use Rattle.syntax.specs.View.{part_of}
 use Rattle.meaning.specs.Stages.{deeper, break}
-use Rattle.checks.proofs.Shown.{no_blank, is_leaf, is_under, is_join, within}
+use Rattle.checks.proofs.Shown.{no_blank, is_leaf, is_under, is_join}
 use Rattle.checks.proofs.Steps.{nothing, ends, passes, stops, then_way, else_way, by, at_place}
 use Rattle.checks.proofs.Ready.{below_part, below_left, below_right, led, rooted_within}
 use Rattle.checks.proofs.depth.+block_branches_declarations_statements.Goals as goal

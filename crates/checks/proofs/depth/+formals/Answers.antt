@@ -1,7 +1,7 @@
 use Rattle.std.proofs.Common.{cond, arith, rules}
 use Rattle.checks.proofs.DepthViews.{formals_leaf, formals_under, formals_join}
 use Rattle.syntax.specs.View.{part_of, by_reference}
-use Rattle.checks.proofs.Shown.{no_blank, is_leaf, is_under, is_join, within}
+use Rattle.checks.proofs.Shown.{no_blank, is_leaf, is_under, is_join}
 use Rattle.checks.proofs.Steps.{nothing, ends, passes, stops, then_way, else_way, by}
 use Rattle.checks.proofs.Ready.{below_part, below_left, below_right, led, rooted_within}
 use Rattle.checks.proofs.depth.+formals.Goals as goal

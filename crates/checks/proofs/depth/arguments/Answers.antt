@@ -1,6 +1,6 @@
 use Rattle.std.proofs.Common.{arith}
 use Rattle.checks.proofs.DepthViews.{arguments_leaf, arguments_under, arguments_join}
-use Rattle.checks.proofs.Shown.{no_blank, is_leaf, is_under, is_join, within}
+use Rattle.checks.proofs.Shown.{no_blank, is_leaf, is_under, is_join}
 use Rattle.checks.proofs.Steps.{nothing, ends, by}
 use Rattle.checks.proofs.Ready.{below_part}
 use Rattle.checks.proofs.depth.arguments.Goals as goal

@@ -1,16 +1,15 @@
 -- Each answer follows the path of its function.
-use Rattle.std.proofs.Common.{◌≡◌, true, false, [], ◌∷◌, ◌++◌, sym, refl, ap, ◌∙◌, arith}
-use Rattle.tiny.specs.declared.tokens.Kind.TheVariants.{Name, TypeWord, ProcWord, IfWord, ElseWord, WhileWord, ReadWord, WriteWord, NlWord, CallWord, Semicolon, Brace, BraceEnd, DoubleAmpersand, At}
+use Rattle.std.proofs.Common.{[], ◌∷◌, sym, refl, ◌∙◌, arith}
+use Rattle.tiny.specs.declared.tokens.Kind.TheVariants.{Name, TypeWord, ProcWord, IfWord, ElseWord, WhileWord, ReadWord, WriteWord, NlWord, CallWord, Semicolon, Brace, DoubleAmpersand, At}
 use Rattle.syntax.specs.Grammar.Sort.{e0, type, field, declaration, statement, branches, content, list, enclosed}
 use Rattle.syntax.specs.Grammar.Listed.{declarations, statements}
 use Rattle.syntax.specs.Grammar.Bracket.{braces, formal_parens, actual_parens}
-use Rattle.syntax.specs.Parse.{expect, further, dropped, pushed, undered, joined, titled, word_rules, naming_rules}
+use Rattle.syntax.specs.Parse.{expect, further, pushed, undered, joined, titled, word_rules, naming_rules}
 use Rattle.syntax.specs.Parse.Part.{whole, tail}
 use Rattle.syntax.specs.Parse.Tail.{more?, else?, section_tail, statements?}
 use Rattle.syntax.specs.Parse.Symbol.{token, make}
-use Rattle.parser.specs.Reading.{instructing}
-use Rattle.parser.proofs.Stand.{start, by, call, call_on, skip, took, passed, named, capped_by, made_leaf, made_under, put_leaf, put_under, put_join, put_title, put_united, done, pays, roomy}
-use Rattle.parser.proofs.Ways.{fails, lacks, broke, gone, nor, nowhere, at_once, entered, lefted, neither, none_of}
+use Rattle.parser.proofs.Stand.{start, call, skip, took, passed, named, capped_by, made_leaf, made_under, put_leaf, put_under, put_join, put_title, put_united, done, pays, roomy}
+use Rattle.parser.proofs.Ways.{fails, lacks, broke, gone, nowhere, at_once, entered, lefted, neither, none_of}
 use Rattle.parser.proofs.Levels.{opened, joining, capping, leafing, entering, handed, instructed, declared, instructed_then, nothing_then}
 use Rattle.parser.proofs.blocks.+block_branches_content_declaration_declarations_statement_statements.Goals as goal
 

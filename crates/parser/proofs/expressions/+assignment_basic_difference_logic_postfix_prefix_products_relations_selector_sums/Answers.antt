@@ -1,14 +1,13 @@
 -- Each answer follows the path of its function.
-use Rattle.std.proofs.Common.{◌≡◌, false, [], ◌∷◌, ◌++◌, sym, refl, ap, ◌∙◌}
-use Rattle.tiny.specs.declared.tokens.Kind.TheVariants.{Name, Becomes, And, Or, Plus, Minus, Index, Dot, Open, Close, Not}
+use Rattle.std.proofs.Common.{[], ◌∷◌, sym, refl, ◌∙◌}
+use Rattle.tiny.specs.declared.tokens.Kind.TheVariants.{Becomes, And, Or, Plus, Minus, Index, Dot, Close}
 use Rattle.tiny.specs.Token.{relations, factors, prefixes}
 use Rattle.syntax.specs.Grammar.Sort.{e0, e2, e3, e4, e5, e6, basic}
 use Rattle.syntax.specs.Parse.{expect, further, dropped, prefix_rules}
 use Rattle.syntax.specs.Parse.Part.{whole, tail}
 use Rattle.syntax.specs.Parse.Tail.{postfix?, factor?, logic?, minus?, plus?, relation?, assign?}
-use Rattle.syntax.specs.Parse.Symbol.{token, make}
-use Rattle.parser.specs.Ahead.{ahead, stands}
-use Rattle.parser.proofs.Stand.{start, by, call, call_on, skip, took, passed, named, made_leaf, made_under, put_leaf, put_under, put_join, done}
+use Rattle.syntax.specs.Parse.Symbol.{token}
+use Rattle.parser.proofs.Stand.{start, call, call_on, skip, took, named, made_leaf, made_under, put_leaf, put_under, put_join, done}
 use Rattle.parser.proofs.Ways.{fails, fails_on, lacks, broke, gone, gone_both, turned, lefted}
 use Rattle.parser.proofs.Levels.{open0, open1, open2, open3, open4, open6, joining, chaining, capping, leafing, selected, select_name, handed}
 use Rattle.parser.proofs.expressions.+assignment_basic_difference_logic_postfix_prefix_products_relations_selector_sums.Goals as goal

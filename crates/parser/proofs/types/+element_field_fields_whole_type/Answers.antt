@@ -1,16 +1,15 @@
 -- Each answer follows the path of its function.
-use Rattle.std.proofs.Common.{◌≡◌, true, false, [], ◌∷◌, ◌++◌, sym, refl, ap, ◌∙◌}
-use Rattle.tiny.specs.declared.tokens.Kind.TheVariants.{Name, Literal, IntWord, BoolWord, StructWord, Open, Close, Comma, Brace, BraceEnd, Index, IndexEnd, Ampersand}
-use Rattle.syntax.specs.Grammar.Sort.{e0, type, field, formal, list, enclosed}
-use Rattle.syntax.specs.Grammar.Listed.{formals, fields, arguments}
-use Rattle.syntax.specs.Grammar.Bracket.{formal_parens, actual_parens}
+use Rattle.std.proofs.Common.{[], ◌∷◌, refl}
+use Rattle.tiny.specs.declared.tokens.Kind.TheVariants.{Name, Literal, IntWord, BoolWord, StructWord, Comma, Brace, BraceEnd, Index, IndexEnd}
+use Rattle.syntax.specs.Grammar.Sort.{type, field, list}
+use Rattle.syntax.specs.Grammar.Listed.{fields}
 use Rattle.syntax.specs.Parse.{expect, further, dropped, pushed, undered, joined}
 use Rattle.syntax.specs.Parse.Part.{whole, tail}
-use Rattle.syntax.specs.Parse.Tail.{array?, more?, formal_name}
+use Rattle.syntax.specs.Parse.Tail.{array?, more?}
 use Rattle.syntax.specs.Parse.Symbol.{token, make}
-use Rattle.parser.proofs.Stand.{start, by, call, call_on, skip, took, passed, named, capped_by, made_leaf, made_under, put_leaf, put_under, put_join, done, pays}
-use Rattle.parser.proofs.Ways.{fails, fails_on, lacks, broke, gone, turned, nor, nowhere, at_once, entered}
-use Rattle.parser.proofs.Levels.{opened, joining, leafing, entering}
+use Rattle.parser.proofs.Stand.{start, call, call_on, skip, took, passed, named, capped_by, made_leaf, made_under, put_leaf, put_under, put_join, done, pays}
+use Rattle.parser.proofs.Ways.{fails, lacks, broke, gone, turned, nor}
+use Rattle.parser.proofs.Levels.{opened, joining}
 use Rattle.parser.proofs.types.+element_field_fields_whole_type.Goals as goal
 
 pub element-returns-in-Some : goal.element-returns-in-Some

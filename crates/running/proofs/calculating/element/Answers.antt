@@ -1,4 +1,4 @@
-use Rattle.std.proofs.Common.{◌≡◌, ℤ, pos, ◌+ℤ◌, ◌*ℤ◌, subst, arith, w32, w64, SFits, to_z}
+use Rattle.std.proofs.Common.{◌≡◌, ℤ, pos, subst, arith, w64, to_z}
 use Rattle.std.proofs.lemmas.Int.{to_z-of_z, to_z_pos}
 use Rattle.machine.specs.Faults.{Answered}
 use Rattle.running.specs.Calculations.{address}

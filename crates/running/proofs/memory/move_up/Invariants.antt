@@ -1,4 +1,4 @@
-use Rattle.std.proofs.Common.{◌≡◌, ◌+◌, ◌≤◌}
+use Rattle.std.proofs.Common.{◌≡◌, ◌≤◌}
 use Rattle.running.proofs.Moves.{rising}
 use Rattle.running.proofs.memory.move_up.Given as goal
 

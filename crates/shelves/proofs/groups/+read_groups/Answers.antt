@@ -1,5 +1,5 @@
-use Rattle.std.proofs.Common.{◌≡◌, ℕ, ◌+◌, ◌-◌, ◌<◌, get_or, drop, sym, refl, ap, ◌∙◌, ⊎_elim, arith}
-use Rattle.shelves.specs.Groups.{raised, read_at, limit}
+use Rattle.std.proofs.Common.{◌-◌, get_or, drop, sym, ap, ◌∙◌, ⊎_elim, arith}
+use Rattle.shelves.specs.Groups.{raised}
 use Rattle.shelves.proofs.Digits.{read_none, read_end, read_last, read_more, limit_step, limit_some}
 use Rattle.shelves.proofs.groups.+read_groups.Goals as goal
 

@@ -1,4 +1,4 @@
-use Rattle.std.proofs.Common.{◌-◌, sym, ◌∙◌, arith}
+use Rattle.std.proofs.Common.{sym, ◌∙◌, arith}
 use Rattle.shelves.proofs.Laws.{nth_on}
 use Rattle.shelves.proofs.reading.nth_from.Goals as goal
 

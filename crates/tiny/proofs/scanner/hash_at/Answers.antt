@@ -1,4 +1,4 @@
-use Rattle.std.proofs.Common.{◌≡◌, sym, ap}
+use Rattle.std.proofs.Common.{sym, ap}
 use Rattle.std.proofs.lemmas.List.{drop_more, drop_all}
 use Rattle.tiny.specs.Automaton.{hash}
 use Rattle.tiny.proofs.scanner.hash_at.Goals as goal

@@ -1,5 +1,4 @@
-use Rattle.std.proofs.Common.{◌≡◌, sym, ap, ◌∙◌, arith}
-use Rattle.tiny.specs.Automaton.{ignore}
+use Rattle.std.proofs.Common.{sym, ◌∙◌, arith}
 use Rattle.tiny.proofs.Reach.{ignored_more, ignored_no_more, ignored_end}
 use Rattle.tiny.proofs.scanner.ignored.Goals as goal
 

@@ -1,4 +1,4 @@
-use Rattle.std.proofs.Common.{◌≡◌, ℕ, List, pos, neg_ℤ, sym, ap, ◌∙◌, arith}
+use Rattle.std.proofs.Common.{ℕ, List, pos, neg_ℤ, ap, ◌∙◌, arith}
 use Rattle.std.proofs.lemmas.List.{take_rest}
 use Rattle.tiny.specs.Spelling.{number, ranged}
 use Rattle.tiny.proofs.Words.{cap, minus_value, plus_value}

@@ -1,4 +1,4 @@
-use Rattle.std.proofs.Common.{◌≡◌, ℕ, ◌+◌, drop, sym, refl, ap, ◌∙◌, arith}
+use Rattle.std.proofs.Common.{ℕ, ◌+◌, drop, sym, ap, ◌∙◌, arith}
 use Rattle.tiny.specs.Spelling.{number}
 use Rattle.tiny.proofs.Words.{cap, number_more, number_all}
 use Rattle.tiny.proofs.text.magnitude.Goals as goal

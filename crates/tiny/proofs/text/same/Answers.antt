@@ -1,4 +1,4 @@
-use Rattle.std.proofs.Common.{◌≡◌, sym, ◌∙◌, arith}
+use Rattle.std.proofs.Common.{sym, ◌∙◌, arith}
 use Rattle.tiny.proofs.Words.{same_long, same_more, same_not, same_all}
 use Rattle.tiny.proofs.text.same.Goals as goal
 

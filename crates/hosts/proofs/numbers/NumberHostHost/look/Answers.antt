@@ -1,4 +1,4 @@
-use Rattle.std.proofs.Common.{◌≡◌, get_or, pos, sym, ap, ◌∙◌, w32, SFits, rules}
+use Rattle.std.proofs.Common.{get_or, pos, sym, w32, SFits, rules}
 use Rattle.std.proofs.lemmas.Int.{to_z-of_z}
 use Rattle.hosts.proofs.Items.{first_of, none_of}
 use Rattle.hosts.proofs.numbers.NumberHostHost.look.Goals as goal

@@ -1,4 +1,4 @@
-use Rattle.std.proofs.Common.{◌≡◌, ◌+◌, List, ◌++◌, length, get_or, take, drop, ℤ, pos, sym, refl, ap, ◌∙◌, arith, length-take, w32, SFits, rules}
+use Rattle.std.proofs.Common.{◌≡◌, List, ◌++◌, length, get_or, take, drop, ℤ, pos, sym, ap, ◌∙◌, arith, length-take, w32, SFits, rules}
 use Rattle.std.proofs.lemmas.Int.{to_z-of_z}
 use Rattle.hosts.specs.Numbers.{numbered, number_host}
 use Rattle.hosts.proofs.Items.{wrote_two, numbered_pair, numbered_two, said_fits, said_full}

@@ -1,4 +1,4 @@
-use Rattle.std.proofs.Common.{◌≡◌, ℕ, List, map, Some, sym, ap, ◌∙◌, arith}
+use Rattle.std.proofs.Common.{ℕ, List, map, Some, sym, ap, ◌∙◌, arith}
 use Rattle.machine.specs.Host.{first}
 use Rattle.machine.specs.declared.host.Item.{Item}
 use Rattle.hosts.specs.Parts.{item_of}

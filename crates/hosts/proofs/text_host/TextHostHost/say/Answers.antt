@@ -1,4 +1,4 @@
-use Rattle.std.proofs.Common.{◌≡◌, ℕ, List, length, take, drop, ℤ, sym, refl, ap, ◌∙◌, arith, length-take}
+use Rattle.std.proofs.Common.{length, take, drop, sym, ap, ◌∙◌, arith, length-take}
 use lib.ListN.{length-map}
 use Rattle.std.proofs.lemmas.List.Edits.{length-paste}
 use Rattle.hosts.specs.Texts.{text_of, text_host}

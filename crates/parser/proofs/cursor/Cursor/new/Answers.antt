@@ -1,5 +1,5 @@
-use Rattle.std.proofs.Common.{◌≡◌, true, length, sym, refl, ap, ◌∙◌, subst}
-use Rattle.tiny.specs.Scan.{scan, left_of}
+use Rattle.std.proofs.Common.{length, sym, ap, ◌∙◌}
+use Rattle.tiny.specs.Scan.{left_of}
 use Rattle.parser.specs.Rest.{scanned, listed, tokens_of}
 use Rattle.parser.proofs.Scanning.{onward, from_start, left_start}
 use Rattle.parser.proofs.cursor.Cursor.new.Goals as goal

@@ -1,4 +1,4 @@
-use Rattle.std.proofs.Common.{◌≡◌, sym, refl, ◌∙◌, arith}
+use Rattle.std.proofs.Common.{sym, ◌∙◌, arith}
 use Rattle.parser.proofs.Scanning.{among_more, among_found, among_end}
 use Rattle.parser.proofs.cursor.taking.contains.Goals as goal
 

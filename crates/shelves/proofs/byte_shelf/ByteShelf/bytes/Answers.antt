@@ -1,4 +1,4 @@
-use Rattle.std.proofs.Common.{◌≡◌, ℕ, ◌-◌, List, take, sym, ap, ◌∙◌, arith}
+use Rattle.std.proofs.Common.{◌≡◌, ℕ, ◌-◌, take, sym, ap, ◌∙◌, arith}
 use Rattle.shelves.specs.Bytes.{decoded}
 use Rattle.shelves.proofs.Laws.{decoded_encoded}
 use Rattle.shelves.proofs.byte_shelf.ByteShelf.bytes.Goals as goal

@@ -1,4 +1,4 @@
-use Rattle.std.proofs.Common.{length, sym, refl, ap, ◌∙◌, arith}
+use Rattle.std.proofs.Common.{length, sym, refl, ap, arith}
 use Rattle.shelves.specs.Bytes.{encoded_all}
 use Rattle.shelves.proofs.Laws.{decoded_nil}
 use Rattle.shelves.proofs.byte_shelf.ByteShelf.new.Goals as goal

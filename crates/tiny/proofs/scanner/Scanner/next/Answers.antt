@@ -1,6 +1,5 @@
-use Rattle.std.proofs.Common.{◌≡◌, ℕ, suc, ◌+◌, ◌-◌, ◌≤◌, length, Some, None, Ok, Err, sym, refl, ap, ◌∙◌, arith, w32, SFits, rules}
+use Rattle.std.proofs.Common.{◌≡◌, suc, ◌+◌, ◌-◌, ◌≤◌, length, Some, None, Ok, Err, sym, refl, ◌∙◌, arith, w32, SFits, rules}
 use Rattle.std.proofs.lemmas.Int.{to_z-of_z}
-use Rattle.tiny.specs.Scan.{lexed, scan_from, with_token, token}
 use Rattle.tiny.proofs.Lexed.{lexed_end}
 use Rattle.tiny.proofs.Counted.{scan_ends, scan_bad, scan_full, scan_out, scan_on, hands_bad, hands_end, hands_full, hands_out, hands_on}
 use Rattle.tiny.proofs.scanner.Scanner.next.Goals as goal
