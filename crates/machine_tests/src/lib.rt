@@ -91,7 +91,7 @@ mod tests {
         let mut shelf = ByteShelf::new(&mut bytes);
         assert_eq!(rt; put_sample(&mut shelf), Ok(()));
         assert_eq!(rt; shelf.count(), 11);
-        assert_eq!(rt; shelf.bytes(), &sample_bytes());
+        assert_eq!(rt; shelf.bytes(), sample_bytes().as_slice());
         assert_eq!(rt; shelf.fetch(2), Some(Instruction::Zero(0, 2, 1)));
         assert_eq!(rt; shelf.fetch(11), None);
     }
@@ -146,7 +146,7 @@ mod tests {
         assert_eq!(rt; host.say(Event::Bool(false)), Ok(()));
         assert_eq!(rt; host.say(Event::Int(10)), Err(NoRoom));
         assert_eq!(rt; host.say(Event::Int(0)), Ok(()));
-        assert_eq!(rt; host.output(), b"-2147483648\ntruefalse0");
+        assert_eq!(rt; host.output(), b"-2147483648\ntruefalse0".as_slice());
     }
 
     #[test]
