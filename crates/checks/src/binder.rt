@@ -149,7 +149,7 @@ fn arguments(
 }
 
 // Names of types, and fields that a struct has already. The table is free from `free` on.
-#[cycle(fields_type_tree)]
+#[cycle(types)]
 fn type_tree(
     source: &[u8],
     nodes: &[Node],
@@ -193,7 +193,7 @@ fn type_tree(
 }
 
 // The fields of one struct are a scope of their own, `inner`.
-#[cycle(fields_type_tree)]
+#[cycle(types)]
 fn fields(
     source: &[u8],
     nodes: &[Node],
@@ -271,7 +271,7 @@ fn formals(
 }
 
 // Declarations add to the innermost scope.
-#[cycle(block_branches_declarations_procedure_statements)]
+#[cycle(blocks)]
 fn declarations(
     source: &[u8],
     nodes: &[Node],
@@ -326,7 +326,7 @@ fn declarations(
 }
 
 // A procedure: its name, which its formals and its block see, then the scope of its formals.
-#[cycle(block_branches_declarations_procedure_statements)]
+#[cycle(blocks)]
 fn procedure(
     source: &[u8],
     nodes: &[Node],
@@ -351,7 +351,7 @@ fn procedure(
     block(source, nodes, table, inner.scope, body)
 }
 
-#[cycle(block_branches_declarations_procedure_statements)]
+#[cycle(blocks)]
 fn statements(
     source: &[u8],
     nodes: &[Node],
@@ -405,7 +405,7 @@ fn statements(
 }
 
 // The one block of an `if`, or both.
-#[cycle(block_branches_declarations_procedure_statements)]
+#[cycle(blocks)]
 fn branches(
     source: &[u8],
     nodes: &[Node],
@@ -438,7 +438,7 @@ fn branches(
 }
 
 // A block is a scope of its own: the scope record is the same after it, however it ends.
-#[cycle(block_branches_declarations_procedure_statements)]
+#[cycle(blocks)]
 fn block(
     source: &[u8],
     nodes: &[Node],

@@ -56,7 +56,7 @@ fn expression(nodes: &[Node], at: usize, depth: usize) -> Result<(), DepthFault>
     }
 }
 
-#[cycle(fields_type_tree)]
+#[cycle(types)]
 fn type_tree(nodes: &[Node], at: usize, depth: usize) -> Result<(), DepthFault>
     requires within { at < length nodes.now }
     requires tree { Rooted nodes.now at }
@@ -82,7 +82,7 @@ fn type_tree(nodes: &[Node], at: usize, depth: usize) -> Result<(), DepthFault>
     }
 }
 
-#[cycle(fields_type_tree)]
+#[cycle(types)]
 fn fields(nodes: &[Node], at: usize, depth: usize) -> Result<(), DepthFault>
     requires within { at < length nodes.now }
     requires tree { Rooted nodes.now at }
@@ -192,7 +192,7 @@ fn procedure(place: usize, depth: usize, level: usize) -> Result<(), DepthFault>
     Ok(())
 }
 
-#[cycle(block_branches_declarations_statements)]
+#[cycle(blocks)]
 fn declarations(nodes: &[Node], at: usize, depth: usize, level: usize) -> Result<(), DepthFault>
     requires within { at < length nodes.now }
     requires tree { Rooted nodes.now at }
@@ -240,7 +240,7 @@ fn declarations(nodes: &[Node], at: usize, depth: usize, level: usize) -> Result
     }
 }
 
-#[cycle(block_branches_declarations_statements)]
+#[cycle(blocks)]
 fn statements(nodes: &[Node], at: usize, depth: usize, level: usize) -> Result<(), DepthFault>
     requires within { at < length nodes.now }
     requires tree { Rooted nodes.now at }
@@ -287,7 +287,7 @@ fn statements(nodes: &[Node], at: usize, depth: usize, level: usize) -> Result<(
 }
 
 // The one block of an `if`, or both.
-#[cycle(block_branches_declarations_statements)]
+#[cycle(blocks)]
 fn branches(nodes: &[Node], at: usize, depth: usize, level: usize) -> Result<(), DepthFault>
     requires within { at < length nodes.now }
     requires tree { Rooted nodes.now at }
@@ -311,7 +311,7 @@ fn branches(nodes: &[Node], at: usize, depth: usize, level: usize) -> Result<(),
     }
 }
 
-#[cycle(block_branches_declarations_statements)]
+#[cycle(blocks)]
 fn block(nodes: &[Node], at: usize, depth: usize, level: usize) -> Result<(), DepthFault>
     requires within { at < length nodes.now }
     requires tree { Rooted nodes.now at }

@@ -15,7 +15,7 @@ use tables::table::Table;
 use tiny::tokens::Kind;
 
 // A block: what stands between braces, or nothing.
-#[cycle(block_branches_content_declaration_declarations_statement_statements)]
+#[cycle(blocks)]
 pub fn block(cursor: &mut Cursor, nodes: &mut Table<Node>) -> Result<usize, ParseFault>
     requires { Room cursor.old nodes.old }
     ensures { Reads (expect (Sort.enclosed Bracket.braces) ∷ []) cursor.old nodes.old result cursor.new nodes.new }
@@ -46,7 +46,7 @@ fn instructs(cursor: &Cursor) -> bool
 }
 
 // Instructions, declarations that `&&` ends, or both.
-#[cycle(block_branches_content_declaration_declarations_statement_statements)]
+#[cycle(blocks)]
 fn content(cursor: &mut Cursor, nodes: &mut Table<Node>) -> Result<usize, ParseFault>
     requires { Room cursor.old nodes.old }
     ensures { Reads (expect Sort.content ∷ []) cursor.old nodes.old result cursor.new nodes.new }
@@ -63,7 +63,7 @@ fn content(cursor: &mut Cursor, nodes: &mut Table<Node>) -> Result<usize, ParseF
     Ok(nodes.push(Node::Under { token, part: left }))
 }
 
-#[cycle(block_branches_content_declaration_declarations_statement_statements)]
+#[cycle(blocks)]
 fn declarations(cursor: &mut Cursor, nodes: &mut Table<Node>) -> Result<usize, ParseFault>
     requires { Room cursor.old nodes.old }
     ensures { Reads (expect (Sort.list Listed.declarations) ∷ []) cursor.old nodes.old result cursor.new nodes.new }
@@ -77,7 +77,7 @@ fn declarations(cursor: &mut Cursor, nodes: &mut Table<Node>) -> Result<usize, P
 }
 
 // A type's name, a procedure, or a variable.
-#[cycle(block_branches_content_declaration_declarations_statement_statements)]
+#[cycle(blocks)]
 fn declaration(cursor: &mut Cursor, nodes: &mut Table<Node>) -> Result<usize, ParseFault>
     requires { Room cursor.old nodes.old }
     ensures { Reads (expect Sort.declaration ∷ []) cursor.old nodes.old result cursor.new nodes.new }
@@ -101,7 +101,7 @@ fn declaration(cursor: &mut Cursor, nodes: &mut Table<Node>) -> Result<usize, Pa
     field(cursor, nodes)
 }
 
-#[cycle(block_branches_content_declaration_declarations_statement_statements)]
+#[cycle(blocks)]
 fn statements(cursor: &mut Cursor, nodes: &mut Table<Node>) -> Result<usize, ParseFault>
     requires { Room cursor.old nodes.old }
     ensures { Reads (expect (Sort.list Listed.statements) ∷ []) cursor.old nodes.old result cursor.new nodes.new }
@@ -115,7 +115,7 @@ fn statements(cursor: &mut Cursor, nodes: &mut Table<Node>) -> Result<usize, Par
 }
 
 // An instruction: one over an expression, one with blocks, a call, or a block.
-#[cycle(block_branches_content_declaration_declarations_statement_statements)]
+#[cycle(blocks)]
 fn statement(cursor: &mut Cursor, nodes: &mut Table<Node>) -> Result<usize, ParseFault>
     requires { Room cursor.old nodes.old }
     ensures { Reads (expect Sort.statement ∷ []) cursor.old nodes.old result cursor.new nodes.new }
@@ -155,7 +155,7 @@ fn statement(cursor: &mut Cursor, nodes: &mut Table<Node>) -> Result<usize, Pars
 }
 
 // The block of an `if`, or its two blocks.
-#[cycle(block_branches_content_declaration_declarations_statement_statements)]
+#[cycle(blocks)]
 fn branches(cursor: &mut Cursor, nodes: &mut Table<Node>) -> Result<usize, ParseFault>
     requires { Room cursor.old nodes.old }
     ensures { Reads (expect Sort.branches ∷ []) cursor.old nodes.old result cursor.new nodes.new }

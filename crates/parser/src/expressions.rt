@@ -11,7 +11,7 @@ use tables::table::Table;
 use tiny::tokens::Kind;
 
 // Level 0: `=` to the right.
-#[cycle(assignment_basic_difference_logic_postfix_prefix_products_relations_selector_sums)]
+#[cycle(levels)]
 pub fn assignment(cursor: &mut Cursor, nodes: &mut Table<Node>) -> Result<usize, ParseFault>
     requires { Room cursor.old nodes.old }
     ensures { Reads (expect Sort.e0 ∷ []) cursor.old nodes.old result cursor.new nodes.new }
@@ -25,7 +25,7 @@ pub fn assignment(cursor: &mut Cursor, nodes: &mut Table<Node>) -> Result<usize,
 }
 
 // Level 1: relations to the left.
-#[cycle(assignment_basic_difference_logic_postfix_prefix_products_relations_selector_sums)]
+#[cycle(levels)]
 fn relations(cursor: &mut Cursor, nodes: &mut Table<Node>) -> Result<usize, ParseFault>
     requires { Room cursor.old nodes.old }
     ensures { Reads (expect Sort.e1 ∷ []) cursor.old nodes.old result cursor.new nodes.new }
@@ -46,7 +46,7 @@ fn relations(cursor: &mut Cursor, nodes: &mut Table<Node>) -> Result<usize, Pars
 }
 
 // Level 2: one `-` at most, and then `+` to the left.
-#[cycle(assignment_basic_difference_logic_postfix_prefix_products_relations_selector_sums)]
+#[cycle(levels)]
 fn sums(cursor: &mut Cursor, nodes: &mut Table<Node>) -> Result<usize, ParseFault>
     requires { Room cursor.old nodes.old }
     ensures { Reads (expect Sort.e2 ∷ []) cursor.old nodes.old result cursor.new nodes.new }
@@ -59,7 +59,7 @@ fn sums(cursor: &mut Cursor, nodes: &mut Table<Node>) -> Result<usize, ParseFaul
     Ok(left)
 }
 
-#[cycle(assignment_basic_difference_logic_postfix_prefix_products_relations_selector_sums)]
+#[cycle(levels)]
 fn difference(cursor: &mut Cursor, nodes: &mut Table<Node>) -> Result<usize, ParseFault>
     requires { Room cursor.old nodes.old }
     ensures { Reads (expect Sort.e3 ∷ further Tail.minus? ∷ []) cursor.old nodes.old result cursor.new nodes.new }
@@ -73,7 +73,7 @@ fn difference(cursor: &mut Cursor, nodes: &mut Table<Node>) -> Result<usize, Par
 }
 
 // Level 3: `and` to the right, one `or`.
-#[cycle(assignment_basic_difference_logic_postfix_prefix_products_relations_selector_sums)]
+#[cycle(levels)]
 fn logic(cursor: &mut Cursor, nodes: &mut Table<Node>) -> Result<usize, ParseFault>
     requires { Room cursor.old nodes.old }
     ensures { Reads (expect Sort.e3 ∷ []) cursor.old nodes.old result cursor.new nodes.new }
@@ -91,7 +91,7 @@ fn logic(cursor: &mut Cursor, nodes: &mut Table<Node>) -> Result<usize, ParseFau
 }
 
 // Level 4: `* / %` to the left.
-#[cycle(assignment_basic_difference_logic_postfix_prefix_products_relations_selector_sums)]
+#[cycle(levels)]
 fn products(cursor: &mut Cursor, nodes: &mut Table<Node>) -> Result<usize, ParseFault>
     requires { Room cursor.old nodes.old }
     ensures { Reads (expect Sort.e4 ∷ []) cursor.old nodes.old result cursor.new nodes.new }
@@ -105,7 +105,7 @@ fn products(cursor: &mut Cursor, nodes: &mut Table<Node>) -> Result<usize, Parse
 }
 
 // Level 5: `-` and `not` before an expression of this level.
-#[cycle(assignment_basic_difference_logic_postfix_prefix_products_relations_selector_sums)]
+#[cycle(levels)]
 fn prefix(cursor: &mut Cursor, nodes: &mut Table<Node>) -> Result<usize, ParseFault>
     requires { Room cursor.old nodes.old }
     ensures { Reads (expect Sort.e5 ∷ []) cursor.old nodes.old result cursor.new nodes.new }
@@ -118,7 +118,7 @@ fn prefix(cursor: &mut Cursor, nodes: &mut Table<Node>) -> Result<usize, ParseFa
 }
 
 // Level 6: `[ ]` and `.` behind an expression.
-#[cycle(assignment_basic_difference_logic_postfix_prefix_products_relations_selector_sums)]
+#[cycle(levels)]
 fn postfix(cursor: &mut Cursor, nodes: &mut Table<Node>) -> Result<usize, ParseFault>
     requires { Room cursor.old nodes.old }
     ensures { Reads (expect Sort.e6 ∷ []) cursor.old nodes.old result cursor.new nodes.new }
@@ -132,7 +132,7 @@ fn postfix(cursor: &mut Cursor, nodes: &mut Table<Node>) -> Result<usize, ParseF
 }
 
 // What stands behind `.`, a name, or behind `[`, an expression and `]`.
-#[cycle(assignment_basic_difference_logic_postfix_prefix_products_relations_selector_sums)]
+#[cycle(levels)]
 fn selector(
     cursor: &mut Cursor,
     nodes: &mut Table<Node>,
@@ -151,7 +151,7 @@ fn selector(
 }
 
 // A name, a literal, or any expression in parentheses.
-#[cycle(assignment_basic_difference_logic_postfix_prefix_products_relations_selector_sums)]
+#[cycle(levels)]
 fn basic(cursor: &mut Cursor, nodes: &mut Table<Node>) -> Result<usize, ParseFault>
     requires { Room cursor.old nodes.old }
     ensures { Reads (expect Sort.basic ∷ []) cursor.old nodes.old result cursor.new nodes.new }

@@ -11,7 +11,7 @@ use tables::table::Table;
 use tiny::tokens::Kind;
 
 // A type, with the lengths of arrays behind it.
-#[cycle(element_field_fields_whole_type)]
+#[cycle(types)]
 pub fn whole_type(cursor: &mut Cursor, nodes: &mut Table<Node>) -> Result<usize, ParseFault>
     requires { Room cursor.old nodes.old }
     ensures { Reads (expect Sort.type ∷ []) cursor.old nodes.old result cursor.new nodes.new }
@@ -27,7 +27,7 @@ pub fn whole_type(cursor: &mut Cursor, nodes: &mut Table<Node>) -> Result<usize,
 }
 
 // A type but for the lengths behind it.
-#[cycle(element_field_fields_whole_type)]
+#[cycle(types)]
 fn element(cursor: &mut Cursor, nodes: &mut Table<Node>) -> Result<usize, ParseFault>
     requires { Room cursor.old nodes.old }
     ensures { Upto (expect Sort.type ∷ []) (further Tail.array? ∷ []) cursor.old nodes.old result cursor.new nodes.new }
@@ -43,7 +43,7 @@ fn element(cursor: &mut Cursor, nodes: &mut Table<Node>) -> Result<usize, ParseF
 }
 
 // The fields of a struct.
-#[cycle(element_field_fields_whole_type)]
+#[cycle(types)]
 fn fields(cursor: &mut Cursor, nodes: &mut Table<Node>) -> Result<usize, ParseFault>
     requires { Room cursor.old nodes.old }
     ensures { Reads (expect (Sort.list Listed.fields) ∷ []) cursor.old nodes.old result cursor.new nodes.new }
@@ -57,7 +57,7 @@ fn fields(cursor: &mut Cursor, nodes: &mut Table<Node>) -> Result<usize, ParseFa
 }
 
 // A type and a name: a field, or a variable.
-#[cycle(element_field_fields_whole_type)]
+#[cycle(types)]
 pub fn field(cursor: &mut Cursor, nodes: &mut Table<Node>) -> Result<usize, ParseFault>
     requires { Room cursor.old nodes.old }
     ensures { Reads (expect Sort.field ∷ []) cursor.old nodes.old result cursor.new nodes.new }

@@ -1,4 +1,4 @@
-use Rattle.checks.proofs.depth.+fields_type_tree.Given as goal
+use Rattle.checks.proofs.binder.+types.Given as goal
 
 abbrev pub decreases-fields : goal.decreases-fields
 decreases-fields l = l.at

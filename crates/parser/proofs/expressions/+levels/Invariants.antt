@@ -4,7 +4,7 @@ use Rattle.syntax.specs.Parse.{further}
 use Rattle.syntax.specs.Parse.Tail.{postfix?, factor?, plus?, relation?}
 use Rattle.parser.specs.Ahead.{ahead}
 use Rattle.parser.proofs.Ways.{Kept}
-use Rattle.parser.proofs.expressions.+assignment_basic_difference_logic_postfix_prefix_products_relations_selector_sums.Given as goal
+use Rattle.parser.proofs.expressions.+levels.Given as goal
 
 abbrev pub decreases-assignment : goal.decreases-assignment
 decreases-assignment l = 16 * length (ahead l.cursor.now) + 9

@@ -11,7 +11,7 @@ use Rattle.syntax.specs.Parse.Symbol.{token, make}
 use Rattle.parser.proofs.Stand.{start, call, skip, took, passed, named, capped_by, made_leaf, made_under, put_leaf, put_under, put_join, put_title, put_united, done, pays, roomy}
 use Rattle.parser.proofs.Ways.{fails, lacks, broke, gone, nowhere, at_once, entered, lefted, neither, none_of}
 use Rattle.parser.proofs.Levels.{opened, joining, capping, leafing, entering, handed, instructed, declared, instructed_then, nothing_then}
-use Rattle.parser.proofs.blocks.+block_branches_content_declaration_declarations_statement_statements.Goals as goal
+use Rattle.parser.proofs.blocks.+blocks.Goals as goal
 
 pub block-returns-in_err-token : goal.block-returns-in_err-token
 block-returns-in_err-token t c =

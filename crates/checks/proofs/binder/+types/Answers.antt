@@ -9,7 +9,7 @@ use Rattle.checks.proofs.Shown.{no_blank, is_leaf, is_under, is_join}
 use Rattle.checks.proofs.Steps.{nothing, ends, passes, stops, then_way, else_way, by}
 use Rattle.checks.proofs.Ready.{fit_part, fit_left, fit_right}
 use Rattle.checks.proofs.Scopes.{yes_ok, not_ok, with_ok, keeps_all, inner_kept, declares_kept, inner_named, grown_named, grown_both, grown_behind, grown_none, inner_none}
-use Rattle.checks.proofs.binder.+fields_type_tree.Goals as goal
+use Rattle.checks.proofs.binder.+types.Goals as goal
 
 pub fields-type_tree-requires : goal.fields-type_tree-requires
 fields-type_tree-requires t c =

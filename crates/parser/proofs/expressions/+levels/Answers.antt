@@ -10,7 +10,7 @@ use Rattle.syntax.specs.Parse.Symbol.{token}
 use Rattle.parser.proofs.Stand.{start, call, call_on, skip, took, named, made_leaf, made_under, put_leaf, put_under, put_join, done}
 use Rattle.parser.proofs.Ways.{fails, fails_on, lacks, broke, gone, gone_both, turned, lefted}
 use Rattle.parser.proofs.Levels.{open0, open1, open2, open3, open4, open6, joining, chaining, capping, leafing, selected, select_name, handed}
-use Rattle.parser.proofs.expressions.+assignment_basic_difference_logic_postfix_prefix_products_relations_selector_sums.Goals as goal
+use Rattle.parser.proofs.expressions.+levels.Goals as goal
 
 pub assignment-returns-in_err-left : goal.assignment-returns-in_err-left
 assignment-returns-in_err-left t c =

@@ -3,7 +3,7 @@ use Rattle.checks.proofs.DepthViews.{type_leaf, type_under, type_join, fields_le
 use Rattle.checks.proofs.Shown.{no_blank, is_leaf, is_under, is_join}
 use Rattle.checks.proofs.Steps.{nothing, ends, passes, stops, by}
 use Rattle.checks.proofs.Ready.{below_part, below_left, below_right}
-use Rattle.checks.proofs.depth.+fields_type_tree.Goals as goal
+use Rattle.checks.proofs.depth.+types.Goals as goal
 
 pub fields-overflow_add-depth : goal.fields-overflow_add-depth
 fields-overflow_add-depth t c = let p = below_part c.requires.tree c.in-Under.is in search rules

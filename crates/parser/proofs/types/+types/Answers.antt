@@ -10,7 +10,7 @@ use Rattle.syntax.specs.Parse.Symbol.{token, make}
 use Rattle.parser.proofs.Stand.{start, call, call_on, skip, took, passed, named, capped_by, made_leaf, made_under, put_leaf, put_under, put_join, done, pays}
 use Rattle.parser.proofs.Ways.{fails, lacks, broke, gone, turned, nor}
 use Rattle.parser.proofs.Levels.{opened, joining}
-use Rattle.parser.proofs.types.+element_field_fields_whole_type.Goals as goal
+use Rattle.parser.proofs.types.+types.Goals as goal
 
 pub element-returns-in-Some : goal.element-returns-in-Some
 element-returns-in-Some t c =

@@ -1,5 +1,5 @@
 use Rattle.std.proofs.Common.{◌+◌, ◌*◌}
-use Rattle.checks.proofs.binder.+block_branches_declarations_procedure_statements.Given as goal
+use Rattle.checks.proofs.binder.+blocks.Given as goal
 
 abbrev pub decreases-block : goal.decreases-block
 decreases-block l = 2 * l.at

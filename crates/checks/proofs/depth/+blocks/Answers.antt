@@ -5,7 +5,7 @@ use Rattle.meaning.specs.Stages.{deeper, break}
 use Rattle.checks.proofs.Shown.{no_blank, is_leaf, is_under, is_join}
 use Rattle.checks.proofs.Steps.{nothing, ends, passes, stops, then_way, else_way, by, at_place}
 use Rattle.checks.proofs.Ready.{below_part, below_left, below_right, led, rooted_within}
-use Rattle.checks.proofs.depth.+block_branches_declarations_statements.Goals as goal
+use Rattle.checks.proofs.depth.+blocks.Goals as goal
 
 pub block-returns-in_err-node-in-Under : goal.block-returns-in_err-node-in-Under
 block-returns-in_err-node-in-Under t c = λ s u h.

@@ -12,7 +12,7 @@ use Rattle.checks.proofs.Steps.Plan.{last, next}
 use Rattle.checks.proofs.Ready.{below_part, below_left, below_right, fit_part, fit_left, fit_led, fit_rooted, fit_within, part_less}
 use Rattle.checks.proofs.Room.{new_amp, new_type, new_name, new_amp_join, new_both, new_proc, in_at, behind_at, block_part, block_behind, two_left, two_right, under_block, amp_right, semi_left, semi_right, other_right, behind_rooted, semi_next, both_parts, head_fits, body_fits}
 use Rattle.checks.proofs.Scopes.{yes_ok, not_ok, with_ok, keeps_all, keeps_both, declares_kept, declares_named, grown_named, grown_both, grown_behind, grown_none, enter, declares_at, keeps_at, proceeded_at, declares_text, grown_then}
-use Rattle.checks.proofs.binder.+block_branches_declarations_procedure_statements.Goals as goal
+use Rattle.checks.proofs.binder.+blocks.Goals as goal
 
 pub block-declarations-requires : goal.block-declarations-requires
 block-declarations-requires t c =

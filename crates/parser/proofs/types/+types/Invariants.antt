@@ -4,7 +4,7 @@ use Rattle.syntax.specs.Parse.{further}
 use Rattle.syntax.specs.Parse.Tail.{array?}
 use Rattle.parser.specs.Ahead.{ahead}
 use Rattle.parser.proofs.Ways.{Kept}
-use Rattle.parser.proofs.types.+element_field_fields_whole_type.Given as goal
+use Rattle.parser.proofs.types.+types.Given as goal
 
 abbrev pub decreases-fields : goal.decreases-fields
 decreases-fields l = 4 * length (ahead l.cursor.now) + 3

@@ -1,7 +1,7 @@
 -- The tokens left fall, and without one read it goes from a content to a block.
 use Rattle.std.proofs.Common.{◌+◌, ◌*◌, length}
 use Rattle.parser.specs.Ahead.{ahead}
-use Rattle.parser.proofs.blocks.+block_branches_content_declaration_declarations_statement_statements.Given as goal
+use Rattle.parser.proofs.blocks.+blocks.Given as goal
 
 abbrev pub decreases-block : goal.decreases-block
 decreases-block l = 8 * length (ahead l.cursor.now) + 1
