@@ -5,9 +5,9 @@ use Rattle.tiny.specs.declared.placed.Placed.{Placed}
 use Rattle.syntax.specs.Shape.{Tree, size}
 use Rattle.syntax.specs.Shape.Tree.{leaf, under, join}
 use Rattle.syntax.specs.View.{part_of, by_reference}
-use Rattle.tables.specs.declared.nodes.Node.{Node}
-use Rattle.tables.specs.declared.nodes.Node.TheVariants.{Blank, Under, Join}
-use Rattle.tables.specs.Shows.{Shows}
+use Rattle.nodes.specs.declared.node.Node.{Node}
+use Rattle.nodes.specs.declared.node.Node.TheVariants.{Blank, Under, Join}
+use Rattle.nodes.specs.Shows.{Shows}
 use Rattle.checks.specs.Rooted.{Rooted, LeadsTo}
 use Rattle.checks.specs.Declares.{FitsIn}
 use Rattle.checks.proofs.Shown.{within, is_under, is_join}

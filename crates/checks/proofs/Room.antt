@@ -6,9 +6,9 @@ use Rattle.tiny.specs.declared.placed.Placed.{Placed}
 use Rattle.tiny.specs.Token.{Token, is}
 use Rattle.syntax.specs.Shape.{Tree, size}
 use Rattle.syntax.specs.Shape.Tree.{leaf, under, join}
-use Rattle.tables.specs.declared.nodes.Node.{Node}
-use Rattle.tables.specs.declared.nodes.Node.TheVariants.{Blank, Under, Join}
-use Rattle.tables.specs.Shows.{Shows}
+use Rattle.nodes.specs.declared.node.Node.{Node}
+use Rattle.nodes.specs.declared.node.Node.TheVariants.{Blank, Under, Join}
+use Rattle.nodes.specs.Shows.{Shows}
 use Rattle.checks.specs.Rooted.{Rooted}
 use Rattle.checks.specs.Declares.{FitsIn, FitsBehind, FitsBoth, new_names}
 use Rattle.checks.proofs.Shown.{is_under, is_join}

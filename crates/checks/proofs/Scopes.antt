@@ -4,7 +4,7 @@ use Rattle.tiny.specs.declared.placed.Placed.{Placed}
 use Rattle.tiny.specs.declared.tokens.Lexeme.{Lexeme}
 use Rattle.tiny.specs.Scan.{token_in}
 use Rattle.tiny.specs.Tree.{Name}
-use Rattle.tables.specs.declared.nodes.Node.{Node}
+use Rattle.nodes.specs.declared.node.Node.{Node}
 use Rattle.tables.specs.declared.table.Table.{Table}
 use Rattle.tables.specs.Items.{items, capacity, item_at}
 use Rattle.meaning.specs.Types.{same_name}

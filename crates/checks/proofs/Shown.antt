@@ -5,10 +5,10 @@ use Rattle.tiny.specs.declared.placed.Placed.{Placed}
 use Rattle.tiny.specs.Scan.{token_in}
 use Rattle.syntax.specs.Shape.{Tree}
 use Rattle.syntax.specs.Shape.Tree.{leaf, under, join}
-use Rattle.tables.specs.declared.nodes.Node.{Node}
-use Rattle.tables.specs.declared.nodes.Node.TheVariants.{Blank, Leaf, Under, Join}
-use Rattle.tables.specs.Shows.{Shows}
-use Rattle.tables.specs.Shows.Shows.{leaf_at, under_at, join_at}
+use Rattle.nodes.specs.declared.node.Node.{Node}
+use Rattle.nodes.specs.declared.node.Node.TheVariants.{Blank, Leaf, Under, Join}
+use Rattle.nodes.specs.Shows.{Shows}
+use Rattle.nodes.specs.Shows.Shows.{leaf_at, under_at, join_at}
 
 pub no_blank : {source : List ℕ} {ns : List Node} {i : ℕ} {t : Tree} → Shows source ns i t → get_or ns i Blank ≡ Blank → ⊥
 no_blank (leaf_at h s) e = let z : ◌≡◌ {A = ℕ} 0 1 = cc in omega arith

@@ -7,10 +7,10 @@ use Rattle.tiny.specs.Tree as Tree
 use Rattle.syntax.specs.Shape.{size}
 use Rattle.syntax.specs.Shape as Shape
 use Rattle.syntax.specs.View as View
-use Rattle.tables.specs.declared.nodes.Node.{Node}
+use Rattle.nodes.specs.declared.node.Node.{Node}
 use Rattle.tables.specs.declared.table.Table.{Table}
 use Rattle.tables.specs.Items.{items, capacity, item_at}
-use Rattle.tables.specs.Shows.{Shows}
+use Rattle.nodes.specs.Shows.{Shows}
 use Rattle.tiny.specs.declared.tokens.Kind.TheVariants.{Name as NameKind, TypeWord, ProcWord, Semicolon, DoubleAmpersand}
 use Rattle.tiny.specs.Token.{is}
 use Rattle.meaning.specs.Stages.{Break, Open, has, known, innermost, added, twice, names_formals, open_formals, names_block}

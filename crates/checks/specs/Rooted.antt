@@ -4,8 +4,8 @@ use Rattle.tiny.specs.declared.tokens.Lexeme.{Lexeme}
 use Rattle.tiny.specs.declared.placed.Placed.{Placed}
 use Rattle.tiny.specs.Scan.{token_in}
 use Rattle.syntax.specs.Shape.{Tree, token_of}
-use Rattle.tables.specs.declared.nodes.Node.{Node}
-use Rattle.tables.specs.Shows.{Shows}
+use Rattle.nodes.specs.declared.node.Node.{Node}
+use Rattle.nodes.specs.Shows.{Shows}
 use Rattle.meaning.specs.Stages.{Break}
 use Rattle.checks.specs.declared.faults.DepthCause.{DepthCause}
 use Rattle.checks.specs.Breaks.{Tells, depth_break}

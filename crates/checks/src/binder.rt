@@ -5,7 +5,7 @@ ghost use Rattle.tiny.specs.Tree.{Name, Fields, Formals, Statements, Declaration
 ghost use Rattle.meaning.specs.Stages.{Open, undeclared, twice, names, names_all, names_type, names_fields, names_formals, open_formals, names_statements, names_declarations, open_declarations, names_block};
 ghost use Rattle.syntax.specs.Shape.{Tree, size};
 ghost use Rattle.syntax.specs.View;
-ghost use Rattle.tables.specs.Shows.{Shows};
+ghost use Rattle.nodes.specs.Shows.{Shows};
 ghost use Rattle.tables.specs.Items.{items, capacity};
 ghost use Rattle.checks.specs.Branches.{names_branches};
 ghost use Rattle.checks.specs.Breaks.{Tells};
@@ -16,7 +16,7 @@ use crate::faults::{NameCause, NameFault};
 use crate::names::{NameRecord, is_held, put};
 use crate::parts::{formal_type, part_of, takes_expression, token_at};
 use crate::scope::{Enclosed, Scope};
-use tables::nodes::Node;
+use nodes::node::Node;
 use tables::table::Table;
 use tiny::placed::Placed;
 use tiny::tokens::{Kind, Token};

@@ -4,7 +4,7 @@ ghost use Rattle.meaning.specs.Stages.{deep_block, names_block};
 ghost use Rattle.syntax.specs.Shape.{Tree};
 ghost use Rattle.syntax.specs.View;
 ghost use Rattle.tables.specs.Items.{capacity};
-ghost use Rattle.tables.specs.Shows.{Shows};
+ghost use Rattle.nodes.specs.Shows.{Shows};
 ghost use Rattle.checks.specs.Breaks.{Tells};
 ghost use Rattle.checks.specs.Checked.{check_break};
 ghost use Rattle.checks.specs.Declares.{FitsIn};
@@ -13,7 +13,7 @@ use crate::binder::check_names;
 use crate::depth::check_depth;
 use crate::faults::CheckFault;
 use crate::names::NameRecord;
-use tables::nodes::Node;
+use nodes::node::Node;
 use tables::table::Table;
 
 // The first break of depth, or else the first of names, or none: `root` is the outermost block of a

@@ -10,7 +10,7 @@ ghost use Rattle.checks.specs.Rooted.{Rooted, DepthIs};
 
 use crate::faults::{DepthCause, DepthFault};
 use crate::parts::{formal_type, part_of, takes_expression, token_at};
-use tables::nodes::Node;
+use nodes::node::Node;
 use tiny::placed::Placed;
 use tiny::tokens::Kind;
 

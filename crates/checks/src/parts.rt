@@ -2,12 +2,12 @@
 ghost use Rattle.std.specs.Prelude.{◌≡◌, ℕ, ◌<◌, ◌≤◌, true, List, length, if◌then◌else◌};
 ghost use Rattle.syntax.specs.Shape.{Tree, token_of};
 ghost use Rattle.syntax.specs.View;
-ghost use Rattle.tables.specs.Shows.{Shows};
+ghost use Rattle.nodes.specs.Shows.{Shows};
 ghost use Rattle.tiny.specs.Scan.{token_in};
 ghost use Rattle.tiny.specs.Token;
 ghost use Rattle.checks.specs.Rooted.{Rooted, LeadsTo, BeginsWith};
 
-use tables::nodes::Node;
+use nodes::node::Node;
 use tiny::placed::Placed;
 use tiny::tokens::{Kind, Lexeme, Token};
 

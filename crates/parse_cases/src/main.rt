@@ -2,11 +2,11 @@
 // prints what becomes of each.
 #![tactic(auto)]
 
+use nodes::node::Node;
 use parser::faults::ParseFault;
 use parser::parse::parse;
 use std::alloc::{AllocError, Global};
 use std::{fs, io};
-use tables::nodes::Node;
 use tables::table::Table;
 
 // What the parser answers: a tree, or the refusal's number and place.

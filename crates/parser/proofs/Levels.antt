@@ -16,7 +16,7 @@ use Rattle.syntax.specs.Parse.Tail.{postfix?, factor?, logic?, minus?, plus?, re
 use Rattle.syntax.specs.Parse.Symbol.{token, part, make}
 use Rattle.syntax.proofs.Steps.{by_behind, by_left, by_tail}
 use Rattle.tables.specs.declared.table.Table.{Table}
-use Rattle.tables.specs.declared.nodes.Node.{Node}
+use Rattle.nodes.specs.declared.node.Node.{Node}
 use Rattle.parser.specs.declared.cursor.Cursor.{Cursor}
 use Rattle.parser.specs.declared.faults.ParseFault.{ParseFault}
 use Rattle.parser.specs.Ahead.{ahead, source_of, stands, Took}

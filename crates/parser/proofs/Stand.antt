@@ -14,12 +14,12 @@ use Rattle.syntax.specs.Parse.Symbol.{token, part, make}
 use Rattle.syntax.proofs.Telling.{All, pick, is_same}
 use Rattle.syntax.proofs.Steps.{onward, at_own, at_make}
 use Rattle.tables.specs.declared.table.Table.{Table}
-use Rattle.tables.specs.declared.nodes.Node.{Node}
-use Rattle.tables.specs.declared.nodes.Node.TheVariants.{Blank, Leaf, Under, Join}
+use Rattle.nodes.specs.declared.node.Node.{Node}
+use Rattle.nodes.specs.declared.node.Node.TheVariants.{Blank, Leaf, Under, Join}
 use Rattle.tables.specs.Items.{items, capacity, Pushed}
-use Rattle.tables.specs.Shows.{Shows}
-use Rattle.tables.specs.Shows.Shows.{leaf_at, under_at, join_at}
-use Rattle.tables.proofs.Parts.{grown, within}
+use Rattle.nodes.specs.Shows.{Shows}
+use Rattle.nodes.specs.Shows.Shows.{leaf_at, under_at, join_at}
+use Rattle.nodes.proofs.Parts.{grown, within}
 use Rattle.parser.specs.declared.cursor.Cursor.{Cursor}
 use Rattle.parser.specs.Rest.{among}
 use Rattle.parser.specs.Ahead.{ahead, source_of, Took}

@@ -17,8 +17,8 @@ use Rattle.syntax.proofs.Telling.{All, is_same}
 use Rattle.syntax.proofs.Steps.{onward, settled, heads, begun_behind, chosen_right, Begins}
 use Rattle.syntax.proofs.Steps.Begins.{begins}
 use Rattle.tables.specs.declared.table.Table.{Table}
-use Rattle.tables.specs.declared.nodes.Node.{Node}
-use Rattle.tables.specs.declared.nodes.Node.TheVariants.{Join}
+use Rattle.nodes.specs.declared.node.Node.{Node}
+use Rattle.nodes.specs.declared.node.Node.TheVariants.{Join}
 use Rattle.tables.specs.Items.{items, capacity, Pushed}
 use Rattle.parser.specs.declared.cursor.Cursor.{Cursor}
 use Rattle.parser.specs.declared.faults.ParseFault.{ParseFault}

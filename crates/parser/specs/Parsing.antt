@@ -5,9 +5,9 @@ use Rattle.tiny.specs.Scan.Scanned.{tokens, refused}
 use Rattle.syntax.specs.Parse.{Outcome, parse}
 use Rattle.syntax.specs.Parse.Outcome.{accept, refuse}
 use Rattle.tables.specs.declared.table.Table.{Table}
-use Rattle.tables.specs.declared.nodes.Node.{Node}
+use Rattle.nodes.specs.declared.node.Node.{Node}
 use Rattle.tables.specs.Items.{items, capacity}
-use Rattle.tables.specs.Shows.{Shows}
+use Rattle.nodes.specs.Shows.{Shows}
 use Rattle.parser.specs.declared.faults.ParseFault.{ParseFault}
 use Rattle.parser.specs.declared.faults.ParseFault.TheVariants.{Scan, Full}
 use Rattle.parser.specs.Ahead.{refusal}

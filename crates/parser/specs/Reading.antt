@@ -9,9 +9,9 @@ use Rattle.syntax.specs.Parse.{Symbol, Stack, run, expect, pushed, dropped}
 use Rattle.syntax.specs.Parse.Symbol.{token}
 use Rattle.syntax.specs.Parse.Outcome.{refuse}
 use Rattle.tables.specs.declared.table.Table.{Table}
-use Rattle.tables.specs.declared.nodes.Node.{Node}
+use Rattle.nodes.specs.declared.node.Node.{Node}
 use Rattle.tables.specs.Items.{items, capacity}
-use Rattle.tables.specs.Shows.{Shows}
+use Rattle.nodes.specs.Shows.{Shows}
 use Rattle.parser.specs.declared.cursor.Cursor.{Cursor}
 use Rattle.parser.specs.declared.faults.ParseFault.{ParseFault}
 use Rattle.parser.specs.Ahead.{ahead, source_of, refusal}

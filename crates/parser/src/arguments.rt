@@ -7,7 +7,7 @@ ghost use Rattle.parser.specs.Reading.{Reads, Room};
 use crate::cursor::Cursor;
 use crate::expressions::assignment;
 use crate::faults::ParseFault;
-use tables::nodes::Node;
+use nodes::node::Node;
 use tables::table::Table;
 use tiny::tokens::Kind;
 

@@ -10,7 +10,7 @@ use crate::cursor::Cursor;
 use crate::expressions::assignment;
 use crate::faults::ParseFault;
 use crate::types::{field, formal_list, whole_type};
-use tables::nodes::Node;
+use nodes::node::Node;
 use tables::table::Table;
 use tiny::tokens::Kind;
 

@@ -6,7 +6,7 @@ ghost use Rattle.parser.specs.Reading.{Reads, Room, selecting};
 
 use crate::cursor::Cursor;
 use crate::faults::ParseFault;
-use tables::nodes::Node;
+use nodes::node::Node;
 use tables::table::Table;
 use tiny::tokens::Kind;
 

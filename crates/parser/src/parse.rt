@@ -5,7 +5,7 @@ ghost use Rattle.parser.specs.Parsing.{Parsed};
 use crate::blocks::block;
 use crate::cursor::Cursor;
 use crate::faults::ParseFault;
-use tables::nodes::Node;
+use nodes::node::Node;
 use tables::table::Table;
 use tiny::scanner::count_tokens;
 

@@ -1,10 +1,10 @@
 // `pedrunchi tree`: the tree of a source, a node to a line, its parts indented below it.
 use crate::{Ended, show};
 use checks::faults::DepthCause;
+use nodes::node::Node;
 use parser::faults::ParseFault;
 use reports::words::cause_in_words;
 use std::io;
-use tables::nodes::Node;
 use tables::table::Table;
 use tiny::tokens::{Kind, Token};
 use trees::faults::TreeFault;

@@ -1,5 +1,4 @@
-// A list that grows over a lent slice, and the records in which it keeps a tree.
+// A list that grows over a lent slice.
 #![tactic(auto)]
 
-pub mod nodes;
 pub mod table;

@@ -4,7 +4,7 @@ ghost use Rattle.tiny.specs.Token.{code, is, class};
 
 use crate::placed::Placed;
 
-#[derive(Clone, Copy)]
+#[derive(Clone, Copy, PartialEq, Eq, Debug)]
 pub enum Kind {
     Name,
     Literal,

@@ -5,9 +5,9 @@ use Rattle.tiny.specs.Scan.Scanned.{tokens, refused}
 use Rattle.syntax.specs.Parse.{Outcome}
 use Rattle.syntax.specs.Parse.Outcome.{accept, refuse}
 use Rattle.tables.specs.declared.table.Table.{Table}
-use Rattle.tables.specs.declared.nodes.Node.{Node}
+use Rattle.nodes.specs.declared.node.Node.{Node}
 use Rattle.tables.specs.Items.{items}
-use Rattle.tables.specs.Shows.{Shows}
+use Rattle.nodes.specs.Shows.{Shows}
 use Rattle.parser.specs.Parsing.{Answered, Fitting, Parsed}
 use Rattle.checks.specs.Rooted.{Rooted}
 use Rattle.meaning.specs.Stages.{Break}

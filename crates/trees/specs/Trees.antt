@@ -4,9 +4,9 @@ use Rattle.tiny.specs.Scan.{scan}
 use Rattle.syntax.specs.Shape.{Tree}
 use Rattle.syntax.specs.View as View
 use Rattle.tables.specs.declared.table.Table.{Table}
-use Rattle.tables.specs.declared.nodes.Node.{Node}
+use Rattle.nodes.specs.declared.node.Node.{Node}
 use Rattle.tables.specs.Items.{items}
-use Rattle.tables.specs.Shows.{Shows}
+use Rattle.nodes.specs.Shows.{Shows}
 use Rattle.parser.specs.Parsing.{Parsed}
 use Rattle.meaning.specs.Stages.{Break, deep_block}
 use Rattle.checks.specs.Breaks.{first_break, depth_break}

@@ -6,8 +6,8 @@ ghost use Rattle.trees.specs.Trees.{ReadTree};
 
 use checks::depth::check_depth;
 use faults::TreeFault;
+use nodes::node::Node;
 use parser::parse::parse;
-use tables::nodes::Node;
 use tables::table::Table;
 
 pub mod faults;

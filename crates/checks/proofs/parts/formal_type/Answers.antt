@@ -1,5 +1,5 @@
 use Rattle.std.proofs.Common.{cond, sym, subst, arith}
-use Rattle.tables.specs.Shows.{Shows}
+use Rattle.nodes.specs.Shows.{Shows}
 use Rattle.syntax.specs.View.{part_of, by_reference}
 use Rattle.tiny.specs.Scan.{token_in}
 use Rattle.syntax.specs.Shape.Tree.{under}

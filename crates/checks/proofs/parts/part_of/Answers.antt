@@ -1,5 +1,5 @@
 use Rattle.std.proofs.Common.{sym, subst, arith}
-use Rattle.tables.specs.Shows.{Shows}
+use Rattle.nodes.specs.Shows.{Shows}
 use Rattle.syntax.specs.View.{part_of}
 use Rattle.checks.proofs.Shown.{no_blank, is_leaf, is_under, is_join}
 use Rattle.checks.proofs.parts.part_of.Goals as goal

@@ -5,8 +5,8 @@ use Rattle.tiny.specs.declared.placed.Placed.{Placed}
 use Rattle.tiny.specs.Scan.{token_in}
 use Rattle.syntax.specs.Shape.{Tree}
 use Rattle.syntax.specs.Shape.Tree.{leaf, under, join}
-use Rattle.tables.specs.declared.nodes.Node.{Node}
-use Rattle.tables.specs.declared.nodes.Node.TheVariants.{Blank, Leaf, Under, Join}
+use Rattle.nodes.specs.declared.node.Node.{Node}
+use Rattle.nodes.specs.declared.node.Node.TheVariants.{Blank, Leaf, Under, Join}
 
 -- record i of the table is the root of the tree, and its parts stand before it
 pub data Shows (source : List ℕ) (ns : List Node) : ℕ → Tree → Type 0 where

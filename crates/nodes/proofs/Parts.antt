@@ -7,10 +7,10 @@ use Rattle.tiny.specs.declared.placed.Placed.{Placed}
 use Rattle.tiny.specs.Scan.{token_in}
 use Rattle.syntax.specs.Shape.{Tree}
 use Rattle.syntax.specs.Shape.Tree.{leaf, under, join}
-use Rattle.tables.specs.declared.nodes.Node.{Node}
-use Rattle.tables.specs.declared.nodes.Node.TheVariants.{Blank, Leaf, Under, Join}
-use Rattle.tables.specs.Shows.{Shows}
-use Rattle.tables.specs.Shows.Shows.{leaf_at, under_at, join_at}
+use Rattle.nodes.specs.declared.node.Node.{Node}
+use Rattle.nodes.specs.declared.node.Node.TheVariants.{Blank, Leaf, Under, Join}
+use Rattle.nodes.specs.Shows.{Shows}
+use Rattle.nodes.specs.Shows.Shows.{leaf_at, under_at, join_at}
 
 pub grown : {source : List ℕ} {ns : List Node} (ms : List Node) {i : ℕ} {t : Tree} → Shows source ns i t → Shows source (ns ++ ms) i t
 grown {ns = ns} ms (leaf_at h s) = leaf_at (rw length-append (omega arith)) (rw get_or_append_left s)
