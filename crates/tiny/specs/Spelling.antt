@@ -1,5 +1,5 @@
 -- How each kind of token is spelled, and what is ignored between tokens.
-use Rattle.std.specs.Prelude.{◌≡◌, ℕ, ◌+◌, ◌-◌, ◌*◌, Bool, true, cond, not, ◌&&◌, ◌||◌, ◌⊎◌, List, [], ◌∷◌, ◌++◌, map, ℤ, pos, negsuc, neg_ℤ, Some, None, Option, ◌==◌, nat_le, nat_lt}
+use Rattle.std.specs.Prelude.{◌≡◌, ℕ, ◌+◌, ◌-◌, ◌*◌, Bool, true, cond, not, ◌&&◌, ◌||◌, ◌⊎◌, List, [], ◌∷◌, ◌++◌, map, codes, ℤ, pos, negsuc, neg_ℤ, Some, None, Option, ◌==◌, nat_le, nat_lt}
 use Rattle.tiny.specs.Token.{is}
 use Rattle.tiny.specs.declared.tokens.Kind.{Kind}
 use Rattle.tiny.specs.declared.tokens.Kind.TheVariants.{Name, Literal, TrueWord, FalseWord, IntWord, BoolWord, StructWord, TypeWord, ProcWord, IfWord, ElseWord, WhileWord, ReadWord, WriteWord, NlWord, CallWord, And, Or, Not, RealWord, StringWord, NullWord, NewWord, DeleteWord, Plus, Minus, Times, Over, Percent, Less, Greater, LessEqual, GreaterEqual, Equal, NotEqual, Open, Close, Semicolon, Becomes, Index, IndexEnd, Dot, Caret, Comma, Brace, BraceEnd, Ampersand, DoubleAmpersand, At}
@@ -35,119 +35,60 @@ abbrev pub Listed : Table → List ℕ → Kind → Type 0
 Listed [] bs k = ⊥
 Listed (e ∷ es) bs k = ((bs ≡ e.0) × (k ≡ e.1)) ⊎ Listed es bs k
 
--- The reserved words, in small letters, in four lists that follow each other.
-abbrev pub action_words : Table
-action_words =
-    -- read
-    (114 ∷ 101 ∷ 97 ∷ 100 ∷ [], ReadWord) ∷
-    -- write
-    (119 ∷ 114 ∷ 105 ∷ 116 ∷ 101 ∷ [], WriteWord) ∷
-    -- nl
-    (110 ∷ 108 ∷ [], NlWord) ∷
-    -- type
-    (116 ∷ 121 ∷ 112 ∷ 101 ∷ [], TypeWord) ∷
-    -- call
-    (99 ∷ 97 ∷ 108 ∷ 108 ∷ [], CallWord) ∷
-    []
-
-abbrev pub control_words : Table
-control_words =
-    -- proc
-    (112 ∷ 114 ∷ 111 ∷ 99 ∷ [], ProcWord) ∷
-    -- if
-    (105 ∷ 102 ∷ [], IfWord) ∷
-    -- else
-    (101 ∷ 108 ∷ 115 ∷ 101 ∷ [], ElseWord) ∷
-    -- while
-    (119 ∷ 104 ∷ 105 ∷ 108 ∷ 101 ∷ [], WhileWord) ∷
-    -- new
-    (110 ∷ 101 ∷ 119 ∷ [], NewWord) ∷
-    -- delete
-    (100 ∷ 101 ∷ 108 ∷ 101 ∷ 116 ∷ 101 ∷ [], DeleteWord) ∷
-    action_words
-
-abbrev pub operator_words : Table
-operator_words =
-    -- and
-    (97 ∷ 110 ∷ 100 ∷ [], And) ∷
-    -- or
-    (111 ∷ 114 ∷ [], Or) ∷
-    -- not
-    (110 ∷ 111 ∷ 116 ∷ [], Not) ∷
-    -- null
-    (110 ∷ 117 ∷ 108 ∷ 108 ∷ [], NullWord) ∷
-    -- true
-    (116 ∷ 114 ∷ 117 ∷ 101 ∷ [], TrueWord) ∷
-    -- false
-    (102 ∷ 97 ∷ 108 ∷ 115 ∷ 101 ∷ [], FalseWord) ∷
-    control_words
-
+-- the reserved words, in small letters
 abbrev pub words : Table
 words =
-    -- int
-    (105 ∷ 110 ∷ 116 ∷ [], IntWord) ∷
-    -- real
-    (114 ∷ 101 ∷ 97 ∷ 108 ∷ [], RealWord) ∷
-    -- bool
-    (98 ∷ 111 ∷ 111 ∷ 108 ∷ [], BoolWord) ∷
-    -- string
-    (115 ∷ 116 ∷ 114 ∷ 105 ∷ 110 ∷ 103 ∷ [], StringWord) ∷
-    -- struct
-    (115 ∷ 116 ∷ 114 ∷ 117 ∷ 99 ∷ 116 ∷ [], StructWord) ∷
-    operator_words
+    (codes "int", IntWord) ∷
+    (codes "real", RealWord) ∷
+    (codes "bool", BoolWord) ∷
+    (codes "string", StringWord) ∷
+    (codes "struct", StructWord) ∷
+    (codes "and", And) ∷
+    (codes "or", Or) ∷
+    (codes "not", Not) ∷
+    (codes "null", NullWord) ∷
+    (codes "true", TrueWord) ∷
+    (codes "false", FalseWord) ∷
+    (codes "proc", ProcWord) ∷
+    (codes "if", IfWord) ∷
+    (codes "else", ElseWord) ∷
+    (codes "while", WhileWord) ∷
+    (codes "new", NewWord) ∷
+    (codes "delete", DeleteWord) ∷
+    (codes "read", ReadWord) ∷
+    (codes "write", WriteWord) ∷
+    (codes "nl", NlWord) ∷
+    (codes "type", TypeWord) ∷
+    (codes "call", CallWord) ∷
+    []
 
 abbrev pub symbols : Table
 symbols =
-    -- +
-    (43 ∷ [], Plus) ∷
-    -- -
-    (45 ∷ [], Minus) ∷
-    -- *
-    (42 ∷ [], Times) ∷
-    -- /
-    (47 ∷ [], Over) ∷
-    -- %
-    (37 ∷ [], Percent) ∷
-    -- <
-    (60 ∷ [], Less) ∷
-    -- >
-    (62 ∷ [], Greater) ∷
-    -- <=
-    (60 ∷ 61 ∷ [], LessEqual) ∷
-    -- >=
-    (62 ∷ 61 ∷ [], GreaterEqual) ∷
-    -- ==
-    (61 ∷ 61 ∷ [], Equal) ∷
-    -- !=
-    (33 ∷ 61 ∷ [], NotEqual) ∷
-    -- (
-    (40 ∷ [], Open) ∷
-    -- )
-    (41 ∷ [], Close) ∷
-    -- ;
-    (59 ∷ [], Semicolon) ∷
-    -- =
-    (61 ∷ [], Becomes) ∷
-    -- [
-    (91 ∷ [], Index) ∷
-    -- ]
-    (93 ∷ [], IndexEnd) ∷
-    -- .
-    (46 ∷ [], Dot) ∷
-    -- ^
-    (94 ∷ [], Caret) ∷
-    -- ,
-    (44 ∷ [], Comma) ∷
-    -- {
-    (123 ∷ [], Brace) ∷
-    -- }
-    (125 ∷ [], BraceEnd) ∷
-    -- &
-    (38 ∷ [], Ampersand) ∷
-    -- &&
-    (38 ∷ 38 ∷ [], DoubleAmpersand) ∷
-    -- @
-    (64 ∷ [], At) ∷
+    (codes "+", Plus) ∷
+    (codes "-", Minus) ∷
+    (codes "*", Times) ∷
+    (codes "/", Over) ∷
+    (codes "%", Percent) ∷
+    (codes "<", Less) ∷
+    (codes ">", Greater) ∷
+    (codes "<=", LessEqual) ∷
+    (codes ">=", GreaterEqual) ∷
+    (codes "==", Equal) ∷
+    (codes "!=", NotEqual) ∷
+    (codes "(", Open) ∷
+    (codes ")", Close) ∷
+    (codes ";", Semicolon) ∷
+    (codes "=", Becomes) ∷
+    (codes "[", Index) ∷
+    (codes "]", IndexEnd) ∷
+    (codes ".", Dot) ∷
+    (codes "^", Caret) ∷
+    (codes ",", Comma) ∷
+    (codes "{", Brace) ∷
+    (codes "}", BraceEnd) ∷
+    (codes "&", Ampersand) ∷
+    (codes "&&", DoubleAmpersand) ∷
+    (codes "@", At) ∷
     []
 
 -- 0, or a digit 1 to 9 and any more digits

@@ -74,35 +74,48 @@ pub enum Class {
     Symbol,
 }
 
-impl Kind {
-    // Kinds are told apart by their numbers.
-    pub fn code(self) -> u8
-        ensures { result ≡ code self }
-    {
-        self as u8
-    }
+// The numbers of kinds.
+impl From<Kind> for u8 {
+    ghost from_gives = { λ kind r. r ≡ code kind };
 
+    fn from(kind: Kind) -> u8 {
+        kind as u8
+    }
+}
+
+impl Kind {
     pub fn is(self, other: Kind) -> bool
         ensures { result ≡ is self other }
     {
-        self.code() == other.code()
+        self == other
     }
 
-    // Kinds are numbered class by class.
     pub fn class(self) -> Class
         ensures { result ≡ class self }
     {
-        let code = self.code();
-        if code == 0 {
-            Class::Name
-        } else if code == 1 {
-            Class::Literal
-        } else if code <= 18 {
-            Class::Word
-        } else if code <= 23 {
-            Class::Unused
-        } else {
-            Class::Symbol
+        match self {
+            Kind::Name => Class::Name,
+            Kind::Literal => Class::Literal,
+            Kind::TrueWord
+            | Kind::FalseWord
+            | Kind::IntWord
+            | Kind::BoolWord
+            | Kind::StructWord
+            | Kind::TypeWord
+            | Kind::ProcWord
+            | Kind::IfWord
+            | Kind::ElseWord
+            | Kind::WhileWord
+            | Kind::ReadWord
+            | Kind::WriteWord
+            | Kind::NlWord
+            | Kind::CallWord
+            | Kind::And
+            | Kind::Or
+            | Kind::Not => Class::Word,
+            Kind::RealWord | Kind::StringWord | Kind::NullWord | Kind::NewWord | Kind::DeleteWord =>
+                Class::Unused,
+            _ => Class::Symbol,
         }
     }
 }

@@ -1,14 +1,10 @@
-use Rattle.std.proofs.Common.{ℕ, ◌+◌, drop, sym, ap, ◌∙◌, arith}
-use Rattle.tiny.specs.Spelling.{number}
-use Rattle.tiny.proofs.Words.{cap, number_more, number_all}
+use Rattle.std.proofs.Common.{◌+◌, ◌-◌, ◌*◌, ◌∙◌, arith, rules, tests}
+use Rattle.std.proofs.lemmas.Iterator.{YieldsList-from_slice}
+use Rattle.std.proofs.lemmas.Iterator.Consumers.{fold_from_yields_List}
+use Rattle.tiny.proofs.Words.{cap, fold_digits}
 use Rattle.tiny.proofs.text.magnitude.Goals as goal
 
-pub loop-i-preserved : goal.loop-i-preserved
-loop-i-preserved c = (
-  omega arith,
-  omega (arith, c.one_digit-n.ensures),
-  c.loop-i.invariant.2 ∙ number_more _ _ _ c.loop-i-test.true ∙ ap (λ (n : ℕ). cap (number n (drop (c.loop-i.i + 1) c.args.digits.now))) (sym c.one_digit-n.ensures),
-)
-
 pub returns : goal.returns
-returns c = let h = ap cap (number_all c.args.digits.now c.loop-i.i c.loop-i.n c.loop-i-test.false) in omega (arith, h, c.loop-i.invariant.2)
+returns c =
+    fold_from_yields_List _ (λ n d. cap (n * 10 + (d - 48))) 0 c.fold.result c.fold.ensures.ran (YieldsList-from_slice c.args.digits.now cc) (λ a x b q k. search (rules, tests))
+    ∙ fold_digits c.args.digits.now 0 (omega arith)
