@@ -9,36 +9,20 @@ use std::alloc::{AllocError, Global};
 use std::{fs, io};
 use tables::table::Table;
 
-// What the parser answers: a tree, or the refusal's number and place.
-fn ask(source: &[u8], cells: &mut [Node]) -> Answer {
-    let mut nodes = Table::over(cells);
-    match parse(source, &mut nodes) {
-        Ok(_root) => Answer::Tree,
-        Err(ParseFault::Scan(fault)) => Answer::Refused(fault.what.number(), fault.place),
-        Err(ParseFault::Syntax(fault)) => Answer::Refused(6, fault.place),
-        Err(ParseFault::Full) => Answer::Refused(1, 0),
-    }
-}
-
-#[derive(Clone, Copy)]
-enum Answer {
-    Tree,
-    Refused(u8, usize),
+// What the parser answers: the root of a tree, or a refusal.
+fn ask(source: &[u8], cells: &mut [Node]) -> Result<usize, ParseFault> {
+    parse(source, &mut Table::over(cells))
 }
 
 // A source of 2,048 tokens: the head, and then the part again and again.
 fn nested(heap: Global, head: &str, part: &str, times: usize) -> Result<String, AllocError> {
-    let mut source = String::from_str(heap, head)?;
-    for _ in 0..times {
-        source.push_str(part)?;
-    }
-    Ok(source)
+    format!(in heap; "{head}{}", part.repeat(heap, times)?)
 }
 
-fn tell(rt: &HostRuntime, answer: Answer, name: &str) -> io::Result<()> {
+fn tell(rt: &HostRuntime, answer: Result<usize, ParseFault>, name: &str) -> io::Result<()> {
     match answer {
-        Answer::Tree => println!(rt; "accepted   {name}"),
-        Answer::Refused(number, place) => println!(rt; "{number} at {place:<4}  {name}"),
+        Ok(_root) => println!(rt; "accepted   {name}"),
+        Err(fault) => println!(rt; "{} at {:<4}  {name}", fault.number(), fault.place()),
     }
 }
 

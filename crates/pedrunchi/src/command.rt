@@ -1,4 +1,5 @@
 // The words of the command.
+use std::fmt;
 
 pub const HELP: &str =
     "pedrunchi tokens FILE    print the tokens of a rule, or why it is refused\npedrunchi tree FILE      print the tree of a rule, or why it is refused\npedrunchi help           print this";
@@ -9,26 +10,47 @@ pub enum Command {
     Help,
     Tokens(String),
     Tree(String),
+}
+
+// Why the words are not those of a command.
+#[derive(Drop)]
+pub enum Misuse {
+    // No command has this name.
     Unknown(String),
     // A file's name is missing, or there are more words behind it.
     NoFile,
 }
 
+impl fmt::Display for Misuse {
+    fn fmt<W: fmt::Write>(&self, f: &mut fmt::Formatter<W>) -> fmt::Result {
+        match self {
+            Misuse::Unknown(word) => write!(f, "there is no command '{word}'"),
+            Misuse::NoFile => f.write_str("the name of one file is wanted"),
+        }
+    }
+}
+
 // The command that the words make.
-pub fn read(verb: Option<String>, file: Option<String>, more: Option<String>) -> Command {
+pub fn read(
+    verb: Option<String>,
+    file: Option<String>,
+    more: Option<String>,
+) -> Result<Command, Misuse> {
     let Some(verb) = verb else {
-        return Command::Help;
+        return Ok(Command::Help);
     };
     match verb.as_str() {
-        "help" | "--help" | "-h" => Command::Help,
-        "tokens" => match (file, more) {
-            (Some(path), None) => Command::Tokens(path),
-            _ => Command::NoFile,
-        },
-        "tree" => match (file, more) {
-            (Some(path), None) => Command::Tree(path),
-            _ => Command::NoFile,
-        },
-        _ => Command::Unknown(verb),
+        "help" | "--help" | "-h" => Ok(Command::Help),
+        "tokens" => Ok(Command::Tokens(one_file(file, more)?)),
+        "tree" => Ok(Command::Tree(one_file(file, more)?)),
+        _ => Err(Misuse::Unknown(verb)),
+    }
+}
+
+// The one file that is named.
+fn one_file(file: Option<String>, more: Option<String>) -> Result<String, Misuse> {
+    match (file, more) {
+        (Some(path), None) => Ok(path),
+        _ => Err(Misuse::NoFile),
     }
 }

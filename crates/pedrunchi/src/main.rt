@@ -6,19 +6,36 @@ mod show;
 mod tokens;
 mod tree;
 
-use command::Command;
+use command::{Command, Misuse};
+use std::alloc::AllocError;
 use std::process::ExitCode;
 use std::{env, io};
 
-// Why the command ended with status 1; what was wrong is told before.
+// Why the command ended with status 1.
 #[derive(Drop)]
 enum Ended {
     // The words were not those of a command.
-    Unknown,
-    // The source was refused.
+    Misused(Misuse),
+    // A file could not be read.
+    Unread(String, io::Error),
+    // There was no memory for the tree.
+    NoMemory,
+    // The source was refused, as the output tells.
     Refused,
-    // A file could not be read, or the output not written.
+    // The output could not be written.
     Failed,
+}
+
+impl From<Misuse> for Ended {
+    fn from(misuse: Misuse) -> Ended {
+        Ended::Misused(misuse)
+    }
+}
+
+impl From<AllocError> for Ended {
+    fn from(_error: AllocError) -> Ended {
+        Ended::NoMemory
+    }
 }
 
 impl From<io::Error> for Ended {
@@ -30,7 +47,10 @@ impl From<io::Error> for Ended {
 fn main(rt: HostRuntime) -> ExitCode {
     match run(&rt) {
         Ok(()) => ExitCode::SUCCESS,
-        Err(_) => ExitCode::FAILURE,
+        Err(ended) => {
+            let _ = complain(&rt, &ended);
+            ExitCode::FAILURE
+        }
     }
 }
 
@@ -40,32 +60,22 @@ fn run(rt: &HostRuntime) -> Result<(), Ended> {
     let verb = words.next();
     let file = words.next();
     let more = words.next();
-    match command::read(verb, file, more) {
+    match command::read(verb, file, more)? {
         Command::Help => {
             println!(rt; "{}", command::HELP)?;
             Ok(())
         }
-        Command::Tokens(path) => {
-            let source = show::source(rt, path.as_str())?;
-            tokens::list(rt, source.as_slice())
-        }
-        Command::Tree(path) => {
-            let source = show::source(rt, path.as_str())?;
-            tree::draw(rt, source.as_slice())
-        }
-        Command::Unknown(word) => {
-            eprintln!(rt;
-                "pedrunchi: there is no command '{word}'\n{}",
-                command::HELP
-            )?;
-            Err(Ended::Unknown)
-        }
-        Command::NoFile => {
-            eprintln!(rt;
-                "pedrunchi: the name of one file is wanted\n{}",
-                command::HELP
-            )?;
-            Err(Ended::Unknown)
-        }
+        Command::Tokens(path) => tokens::list(rt, show::source(rt, path)?.as_slice()),
+        Command::Tree(path) => tree::draw(rt, show::source(rt, path)?.as_slice()),
+    }
+}
+
+// Says what was wrong, but for a refusal, which stands in the output.
+fn complain(rt: &HostRuntime, ended: &Ended) -> io::Result<()> {
+    match ended {
+        Ended::Misused(misuse) => eprintln!(rt; "pedrunchi: {misuse}\n{}", command::HELP),
+        Ended::Unread(path, error) => eprintln!(rt; "pedrunchi: cannot read '{path}': {error}"),
+        Ended::NoMemory => eprintln!(rt; "pedrunchi: there is no memory for the tree"),
+        Ended::Refused | Ended::Failed => Ok(()),
     }
 }

@@ -1,13 +1,9 @@
 // `pedrunchi tree`: the tree of a source, a node to a line, its parts indented below it.
 use crate::{Ended, show};
-use checks::faults::DepthCause;
 use nodes::node::Node;
-use parser::faults::ParseFault;
-use reports::words::cause_in_words;
 use std::io;
 use tables::table::Table;
 use tiny::tokens::{Kind, Token};
-use trees::faults::TreeFault;
 use trees::read_tree;
 
 // How many records a table has.
@@ -15,10 +11,7 @@ const RECORDS: usize = 2048;
 
 // The tree of a source, or the first refusal.
 pub fn draw(rt: &HostRuntime, source: &[u8]) -> Result<(), Ended> {
-    let Ok(mut cells) = vec![in rt.alloc(); Node::Blank; RECORDS] else {
-        eprintln!(rt; "pedrunchi: there is no memory for the tree")?;
-        return Err(Ended::Failed);
-    };
+    let mut cells = vec![in rt.alloc(); Node::Blank; RECORDS]?;
     let mut nodes = Table::over(cells.as_mut_slice());
     match read_tree(source, &mut nodes) {
         Ok(root) => {
@@ -27,13 +20,7 @@ pub fn draw(rt: &HostRuntime, source: &[u8]) -> Result<(), Ended> {
             Ok(())
         }
         Err(fault) => {
-            show::refusal(
-                rt,
-                source,
-                fault.number(),
-                words(source, fault),
-                fault.place(),
-            )?;
+            show::refused(rt, source, fault)?;
             Err(Ended::Refused)
         }
     }
@@ -81,38 +68,20 @@ fn head(rt: &HostRuntime, source: &[u8], token: Token, depth: usize) -> io::Resu
 
 // Whether a token only holds a list together.
 fn links(kind: Kind) -> bool {
-    kind.is(Kind::Semicolon)
-        || kind.is(Kind::Comma)
-        || kind.is(Kind::DoubleAmpersand)
-        || kind.is(Kind::Open)
-        || kind.is(Kind::ElseWord)
-        || kind.is(Kind::Ampersand)
+    matches!(
+        kind,
+        Kind::Semicolon
+            | Kind::Comma
+            | Kind::DoubleAmpersand
+            | Kind::Open
+            | Kind::ElseWord
+            | Kind::Ampersand
+    )
 }
 
 fn row(rt: &HostRuntime, source: &[u8], token: Token, depth: usize) -> io::Result<()> {
-    print!(rt; "{:>5}  ", token.place)?;
-    for _ in 0..depth {
-        print!(rt; "  ")?;
-    }
+    let indent = depth.saturating_mul(2);
+    print!(rt; "{:>5}  {:indent$}", token.place, "")?;
     show::bytes(rt, show::stretch(source, token.place, token.what.end))?;
     println!(rt; "")
-}
-
-// A refusal in words.
-fn words(source: &[u8], fault: TreeFault) -> &'static str {
-    match fault {
-        TreeFault::Parse(ParseFault::Scan(fault)) => cause_in_words(fault.what),
-        TreeFault::Parse(ParseFault::Syntax(fault)) => {
-            if fault.place < source.len() {
-                "no rule goes on with this token"
-            } else {
-                "the rule is not finished"
-            }
-        }
-        TreeFault::Parse(ParseFault::Full) => "the table for nodes is too small",
-        TreeFault::Depth(fault) => match fault.what {
-            DepthCause::Node => "this is nested deeper than 96",
-            DepthCause::Procedure => "this procedure is nested deeper than 8",
-        },
-    }
 }

@@ -1,5 +1,4 @@
-// What people are told of a source: where a place is, and what a refusal means.
+// What people are told of a source: where a place is.
 #![tactic(auto)]
 
 pub mod lines;
-pub mod words;

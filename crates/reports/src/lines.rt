@@ -17,15 +17,7 @@ fn lines_before(source: &[u8], at: usize) -> usize
     ensures count { result ≡ line_ends (take at source.now) }
     ensures few { result ≤ at }
 {
-    let mut lines = 0;
-    let mut i = 0;
-    while i < at {
-        if source[i] == b'\n' {
-            lines += 1;
-        }
-        i += 1;
-    }
-    lines
+    source[..at].iter().filter(|b| **b == b'\n').count()
 }
 
 // How many bytes of its line stand before a place.
@@ -34,17 +26,11 @@ fn bytes_before(source: &[u8], at: usize) -> usize
     ensures count { result ≡ since 0 (take at source.now) }
     ensures few { result ≤ at }
 {
-    let mut bytes = 0;
-    let mut i = 0;
-    while i < at {
-        if source[i] == b'\n' {
-            bytes = 0;
-        } else {
-            bytes += 1;
-        }
-        i += 1;
-    }
-    bytes
+    source[..at]
+        .iter()
+        .rev()
+        .take_while(|b| **b != b'\n')
+        .count()
 }
 
 // Where the line of a place ends.
@@ -52,14 +38,7 @@ fn line_end(source: &[u8], at: usize) -> usize
     requires { at ≤ length source.now }
     ensures { result ≡ at + line_length (drop at source.now) }
 {
-    let mut i = at;
-    while i < source.len() {
-        if source[i] == b'\n' {
-            return i;
-        }
-        i += 1;
-    }
-    i
+    at + source[at..].iter().take_while(|b| **b != b'\n').count()
 }
 
 // The location of a place; a place past the end is the end.

@@ -6,19 +6,16 @@ mod tests {
     use tiny::scanner::{Scanner, count_tokens};
     use tiny::tokens::Kind;
 
-    // The number and the place of the refusal, or 0 and how many tokens there are.
-    fn answer(source: &[u8]) -> (u8, usize) {
-        match count_tokens(source) {
-            Ok(count) => (0, count),
-            Err(fault) => (fault.what.number(), fault.place),
-        }
+    // How many tokens there are, or the number and the place of the refusal.
+    fn answer(source: &[u8]) -> Result<usize, (u8, usize)> {
+        count_tokens(source).map_err(|fault| (fault.what.number(), fault.place))
     }
 
     // Whether the first token is of this kind, with this end and value.
     fn begins(source: &[u8], kind: Kind, end: usize, value: i32) -> bool {
         match Scanner::new(source).next() {
             Ok(Some(token)) => {
-                token.what.kind.is(kind) && token.what.end == end && token.what.value == value
+                token.what.kind == kind && token.what.end == end && token.what.value == value
             }
             _ => false,
         }
@@ -26,40 +23,38 @@ mod tests {
 
     #[test]
     fn lengths(rt: HostRuntime) {
-        assert_eq!(rt; answer(b""), (0, 0));
-        assert_eq!(rt; answer(&[b' '; 16384]), (0, 0));
-        assert_eq!(rt; answer(&[b' '; 16385]), (2, 16384));
-        assert_eq!(rt; answer(&[b'!'; 16384]), (3, 0));
-        assert_eq!(rt; answer(&[b'!'; 16385]), (2, 16384));
+        assert_eq!(rt; answer(b""), Ok(0));
+        assert_eq!(rt; answer(&[b' '; 16384]), Ok(0));
+        assert_eq!(rt; answer(&[b' '; 16385]), Err((2, 16384)));
+        assert_eq!(rt; answer(&[b'!'; 16384]), Err((3, 0)));
+        assert_eq!(rt; answer(&[b'!'; 16385]), Err((2, 16384)));
     }
 
     #[test]
     fn many_tokens(rt: HostRuntime) {
-        assert_eq!(rt; answer(&[b';'; 2048]), (0, 2048));
-        assert_eq!(rt; answer(&[b';'; 2049]), (5, 2048));
+        assert_eq!(rt; answer(&[b';'; 2048]), Ok(2048));
+        assert_eq!(rt; answer(&[b';'; 2049]), Err((5, 2048)));
         let mut bytes = [b';'; 2060];
-        for b in &mut bytes[2048..2060] {
-            *b = b'9';
-        }
+        bytes[2048..].fill(b'9');
         assert_eq!(rt;
             answer(&bytes),
-            (5, 2048),
+            Err((5, 2048)),
             "want of room before a literal outside int"
         );
         bytes[2048] = b'!';
-        assert_eq!(rt; answer(&bytes), (3, 2048), "no token begins there");
+        assert_eq!(rt; answer(&bytes), Err((3, 2048)), "no token begins there");
     }
 
     #[test]
     fn literals(rt: HostRuntime) {
         assert!(rt; begins(b"-2147483648", Kind::Literal, 11, -2147483648));
-        assert_eq!(rt; answer(b"{-2147483649}"), (4, 1));
-        assert_eq!(rt; answer(b"{ +2147483648}"), (4, 2));
+        assert_eq!(rt; answer(b"{-2147483649}"), Err((4, 1)));
+        assert_eq!(rt; answer(b"{ +2147483648}"), Err((4, 2)));
         assert!(rt; begins(b"+0", Kind::Literal, 2, 0));
         assert!(rt; begins(b"007", Kind::Literal, 1, 0));
-        assert_eq!(rt; answer(b"007"), (0, 3));
-        assert_eq!(rt; answer(b"x-1"), (0, 2));
-        assert_eq!(rt; answer(b"x - 1"), (0, 3));
+        assert_eq!(rt; answer(b"007"), Ok(3));
+        assert_eq!(rt; answer(b"x-1"), Ok(2));
+        assert_eq!(rt; answer(b"x - 1"), Ok(3));
     }
 
     #[test]
@@ -68,11 +63,11 @@ mod tests {
         assert!(rt; begins(b"< =", Kind::Less, 1, 0));
         assert!(rt; begins(b"&&", Kind::DoubleAmpersand, 2, 0));
         assert!(rt; begins(b"& &", Kind::Ampersand, 1, 0));
-        assert_eq!(rt; answer(b"a##"), (0, 1));
-        assert_eq!(rt; answer(b"a ## b \r c \n d"), (0, 2));
-        assert_eq!(rt; answer(b"a # b"), (3, 2));
-        assert_eq!(rt; answer(b"a\xc3\xb1"), (3, 1));
-        assert_eq!(rt; answer(b"\"a\""), (3, 0));
+        assert_eq!(rt; answer(b"a##"), Ok(1));
+        assert_eq!(rt; answer(b"a ## b \r c \n d"), Ok(2));
+        assert_eq!(rt; answer(b"a # b"), Err((3, 2)));
+        assert_eq!(rt; answer(b"a\xc3\xb1"), Err((3, 1)));
+        assert_eq!(rt; answer(b"\"a\""), Err((3, 0)));
     }
 
     #[test]

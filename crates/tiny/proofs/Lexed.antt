@@ -5,10 +5,13 @@ use Rattle.std.proofs.lemmas.Bool.{le-leb, lt-leb}
 use Rattle.tiny.specs.declared.tokens.Kind.{Kind}
 use Rattle.tiny.specs.Spelling.{meaning}
 use Rattle.tiny.specs.declared.states.Stretch.{Stretch}
+use Rattle.tiny.specs.declared.placed.Placed.{Placed}
+use Rattle.tiny.specs.declared.faults.ScanCause.{ScanCause}
+use Rattle.tiny.specs.declared.faults.ScanCause.TheVariants.{NoToken}
 use Rattle.tiny.specs.declared.states.State.{State}
 use Rattle.tiny.specs.declared.states.State.TheVariants.{Start}
 use Rattle.tiny.specs.Automaton.{kind, reach, skip}
-use Rattle.tiny.specs.Scan.{formed, lexeme, lexed}
+use Rattle.tiny.specs.Scan.{formed, lexeme, lexed, EndsWithin}
 use Rattle.tiny.proofs.Reach.{skip_within, reach_within}
 
 -- the bytes ignored, and those of a token, lie in the source
@@ -18,7 +21,7 @@ skip_in source at n h e = omega (arith, e, skip_within false (drop at source), l
 pub reach_in : (source : List ℕ) (place : ℕ) (p : ℕ × State) → place ≤ length source → p ≡ reach Start (drop place source) → place + p.0 ≤ length source
 reach_in source place p h e = omega (arith, ap (λ (q : ℕ × State). q.0) e, reach_within Start (drop place source), length-drop place source)
 
-abbrev pub from : Bool → ℕ → List ℕ → Result (Option Stretch) ℕ
+abbrev pub from : Bool → ℕ → List ℕ → Result (Option Stretch) (Placed ScanCause)
 from past place source = elim past [ true ↦ Ok None | false ↦ lexeme place (drop place source) (reach Start (drop place source)) ]
 
 module _ (source : List ℕ) (at place : ℕ) (p≡ : place ≡ at + skip false (drop at source)) where
@@ -41,5 +44,23 @@ module _ (source : List ℕ) (at place : ℕ) (p≡ : place ≡ at + skip false 
         ap (λ (x : Option ℤ). Ok (Some (record { kind = k; place = place; end = place + n; value = x }))) v≡
         ∙ ap (formed place n (take ((place + n) - place) (drop place source))) (sym e) ∙ formed_here
 
-    pub lexed_bad : kind s (take ((place + n) - place) (drop place source)) ≡ None → Err place ≡ lexed source at
+    pub lexed_bad : kind s (take ((place + n) - place) (drop place source)) ≡ None → Err (record { what = NoToken; place = place }) ≡ lexed source at
     lexed_bad e = ap (formed place n (take ((place + n) - place) (drop place source))) (sym e) ∙ formed_here
+
+-- the next token ends within the source
+pub lexed_ends : (source : List ℕ) (at : ℕ) → at ≤ length source → EndsWithin (length source) (lexed source at)
+lexed_ends source at w = go (leb (length source) (at + skip false (drop at source)))
+  where
+    go : (b : Bool) → EndsWithin (length source) (from b (at + skip false (drop at source)) source)
+    go true = tt
+    go false = by (kind p.1 (take p.0 (drop place source)))
+      where
+        place : ℕ
+        place = at + skip false (drop at source)
+
+        p : ℕ × State
+        p = reach Start (drop place source)
+
+        by : (o : Option Kind) → EndsWithin (length source) (formed place p.0 (take p.0 (drop place source)) o)
+        by None = tt
+        by (Some k) = reach_in source place p (skip_in source at (skip false (drop at source)) w (λ i. skip false (drop at source))) (λ i. p)

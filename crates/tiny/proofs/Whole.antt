@@ -3,6 +3,7 @@ use Rattle.std.proofs.Common.{◌≡◌, ℕ, zero, suc, ◌+◌, ◌-◌, ◌<�
 use Rattle.std.proofs.lemmas.List.{length-drop, drop-drop, drop_all}
 use Rattle.std.proofs.lemmas.Bool.{cases_lt, lt-leb, eqb-true, or_cases}
 use Rattle.tiny.specs.declared.tokens.Kind.{Kind}
+use Rattle.tiny.specs.declared.faults.ScanCause.TheVariants.{NoToken}
 use Rattle.tiny.specs.Token.{Token}
 use Rattle.tiny.specs.declared.states.State.{State}
 use Rattle.tiny.specs.declared.states.State.TheVariants.{Start}
@@ -66,7 +67,7 @@ module _ (source : List ℕ) (at : ℕ) (in_source : at ≤ length source) where
         sym (here source at place p≡) ∙ ap (λ (b : Bool). from b place source) (lt-leb _ _ h) ∙ ap (formed place (reached rest) (take (reached rest) rest)) k≡
         ∙ ap (λ (m : ℕ). Ok (Some (record { kind = k; place = place; end = place + m; value = meaning k (take m rest) }))) r≡
 
-    lexed_stuck : place < length source → kind_of (drop place source) ≡ None → lexed source at ≡ Err place
+    lexed_stuck : place < length source → kind_of (drop place source) ≡ None → lexed source at ≡ Err (record { what = NoToken; place = place })
     lexed_stuck h e =
         let rest = drop place source in
         sym (here source at place p≡) ∙ ap (λ (b : Bool). from b place source) (lt-leb _ _ h) ∙ ap (formed place (reached rest) (take (reached rest) rest)) e
@@ -100,7 +101,7 @@ module _ (source : List ℕ) (at : ℕ) (w : at ≤ length source) where
   at_stuck : at + skip false (drop at source) < length source → kind_of (drop (at + skip false (drop at source)) source) ≡ None → (room : ℕ) → Scans source room at (scan_from room source at)
   at_stuck h n room =
       let p = at + skip false (drop at source) in
-      subst (λ (r : Scanned). Scans source room at r) (sym (scan_bad room source at p (lexed_stuck source at w p refl h n)))
+      subst (λ (r : Scanned). Scans source room at r) (sym (scan_bad room source at (record { what = NoToken; place = p }) (lexed_stuck source at w p refl h n)))
       (no_token p within passed (omega (arith, length-drop p source), (λ rest i. none_ignored (drop p source) rest stays i), is_none (drop p source) n))
 
   module _ (k : Kind) (k≡ : kind_of (drop (at + skip false (drop at source)) source) ≡ Some k) where
@@ -157,7 +158,7 @@ scanned source {room} {at} (ends i) w =
 scanned source {room} {at} (no_token p h i (some, bare, none)) w =
     let z = same_left (drop p source) (bare _ (skip_ignored (drop p source))) in
     let quiet : kind_of (drop p source) ≡ None = nothing_there (drop p source) none in
-    scan_bad room source at p (lexed_stuck source at w p (place_of source at w p h i z) (omega (arith, length-drop p source)) quiet)
+    scan_bad room source at (record { what = NoToken; place = p }) (lexed_stuck source at w p (place_of source at w p h i z) (omega (arith, length-drop p source)) quiet)
   where
     nothing_there : (bs : List ℕ) → ((m : ℕ) (j : Kind) → m ≤ length bs → Rattle.tiny.specs.Spelling.Spells j (take m bs) → ⊥) → kind_of bs ≡ None
     nothing_there bs none = go (kind_of bs) refl

@@ -3,6 +3,7 @@ pub mod Tree
 pub mod Token
 pub mod Spelling
 pub mod Refusals
+pub mod Words
 pub mod Automaton
 pub mod Scan
 pub mod Law

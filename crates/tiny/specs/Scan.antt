@@ -13,24 +13,24 @@ use Rattle.tiny.specs.declared.states.State.TheVariants.{Start}
 use Rattle.tiny.specs.Automaton.{kind, reach, skip}
 
 -- a token at a place, of so many bytes
-abbrev pub formed : ℕ → ℕ → List ℕ → Option Kind → Result (Option Stretch) ℕ
-formed place n text o = elim o [ Some k ↦ Ok (Some (record { kind = k; place = place; end = place + n; value = meaning k text })) | None ↦ Err place ]
+abbrev pub formed : ℕ → ℕ → List ℕ → Option Kind → Result (Option Stretch) (Placed ScanCause)
+formed place n text o = elim o [ Some k ↦ Ok (Some (record { kind = k; place = place; end = place + n; value = meaning k text })) | None ↦ Err (record { what = NoToken; place = place }) ]
 
 -- the longest token at a place, where `rest` begins
-abbrev pub lexeme : ℕ → List ℕ → ℕ × State → Result (Option Stretch) ℕ
+abbrev pub lexeme : ℕ → List ℕ → ℕ × State → Result (Option Stretch) (Placed ScanCause)
 lexeme place rest p = formed place p.0 (take p.0 rest) (kind p.1 (take p.0 rest))
 
 -- the next token behind what is ignored
-abbrev pub lexed : List ℕ → ℕ → Result (Option Stretch) ℕ
+abbrev pub lexed : List ℕ → ℕ → Result (Option Stretch) (Placed ScanCause)
 lexed source at =
     let place = at + skip false (drop at source) in
     elim (nat_le (length source) place) [ true ↦ Ok None | false ↦ lexeme place (drop place source) (reach Start (drop place source)) ]
 
 -- a stretch ends within the source
-abbrev pub EndsWithin : ℕ → Result (Option Stretch) ℕ → Type 0
+abbrev pub EndsWithin : ℕ → Result (Option Stretch) (Placed ScanCause) → Type 0
 EndsWithin long (Ok None) = Unit {0}
 EndsWithin long (Ok (Some t)) = t.end ≤ long
-EndsWithin long (Err place) = Unit {0}
+EndsWithin long (Err f) = Unit {0}
 
 -- all tokens of a source, or a refusal: its cause and place
 pub data Scanned : Type 0 where
@@ -52,11 +52,11 @@ valued source t o rest = elim o [ Some v ↦ with_token (token source t.place t.
 unfoldable pub scan_from : ℕ → List ℕ → ℕ → Scanned
 scan_from zero source at = elim (lexed source at) [
   | Ok o ↦ elim o [ Some t ↦ refused TooMany t.place | None ↦ tokens [] ]
-  | Err place ↦ refused NoToken place
+  | Err f ↦ refused f.what f.place
 ]
 scan_from (suc room) source at = elim (lexed source at) [
   | Ok o ↦ elim o [ Some t ↦ valued source t t.value (scan_from room source t.end) | None ↦ tokens [] ]
-  | Err place ↦ refused NoToken place
+  | Err f ↦ refused f.what f.place
 ]
 
 unfoldable pub scan : List ℕ → Scanned
@@ -73,10 +73,10 @@ handed zero t v = Err (record { what = TooMany; place = t.place })
 handed (suc room) t None = Err (record { what = TooLarge; place = t.place })
 handed (suc room) t (Some v) = Ok (Some (record { what = record { kind = t.kind; end = t.end; value = v }; place = t.place }))
 
-abbrev pub handing : ℕ → Result (Option Stretch) ℕ → Result (Option (Placed Lexeme)) (Placed ScanCause)
+abbrev pub handing : ℕ → Result (Option Stretch) (Placed ScanCause) → Result (Option (Placed Lexeme)) (Placed ScanCause)
 handing room (Ok None) = Ok None
 handing room (Ok (Some t)) = handed room t t.value
-handing room (Err place) = Err (record { what = NoToken; place = place })
+handing room (Err f) = Err f
 
 -- the next token from a place on, none at the end, or the break that stands there; there is room for so many tokens
 abbrev pub next_token : ℕ → List ℕ → ℕ → Result (Option (Placed Lexeme)) (Placed ScanCause)

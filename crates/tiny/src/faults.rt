@@ -3,6 +3,7 @@ ghost use Rattle.std.specs.Prelude.{◌≡◌};
 ghost use Rattle.tiny.specs.Refusals.{scan_number};
 
 use crate::placed::Placed;
+use std::fmt;
 
 #[derive(Clone, Copy, PartialEq, Eq, Debug)]
 pub enum ScanCause {
@@ -19,6 +20,13 @@ pub enum ScanCause {
 pub type ScanFault = Placed<ScanCause>;
 
 impl ScanCause {
+    // The fault that stands at a place.
+    pub fn at(self, place: usize) -> ScanFault
+        ensures { result ≡ record { what = self; place = place } }
+    {
+        Placed { what: self, place }
+    }
+
     // The refusal's number in the list of refusals.
     pub fn number(self) -> u8
         ensures { result ≡ scan_number self }
@@ -28,6 +36,25 @@ impl ScanCause {
             ScanCause::NoToken => 3,
             ScanCause::TooLarge => 4,
             ScanCause::TooMany => 5,
+        }
+    }
+}
+
+// What the refusal means.
+impl fmt::Display for ScanCause {
+    ghost use Rattle.std.specs.Prelude.{Some};
+    ghost use Rattle.tiny.specs.Words.{cause_words};
+
+    ghost output = { λ cause. Some (cause_words cause) };
+
+    fn fmt<W: fmt::Write>(&self, f: &mut fmt::Formatter<W>) -> fmt::Result {
+        match self {
+            ScanCause::TooLong => f.write_str("the source is longer than 16384 bytes"),
+            ScanCause::NoToken => f.write_str("no token begins with this byte"),
+            ScanCause::TooLarge => {
+                f.write_str("this literal is outside int, -2147483648 to 2147483647")
+            }
+            ScanCause::TooMany => f.write_str("this is the 2049th token, and 2048 are the most"),
         }
     }
 }

@@ -17,19 +17,18 @@ pub const MOST_BYTES: usize = 16384;
 pub const MOST_TOKENS: usize = 2048;
 
 // How many bytes at the front are ignored: blanks, and comments from `##` to the end of the line.
+#[tactic(auto, using(crate::proofs::Reach::ignored_more, crate::proofs::Reach::ignored_no_more))]
 fn ignored(bytes: &[u8]) -> usize
     ensures { result ≡ skip false bytes.now }
 {
     let mut comment = false;
-    let mut n = 0;
-    while n < bytes.len() {
-        let Some(next) = ignore(comment, bytes[n], hash_at(bytes, n + 1)) else {
+    for (n, b) in bytes.iter().enumerate() {
+        let Some(next) = ignore(comment, *b, hash_at(bytes, n + 1)) else {
             return n;
         };
         comment = next;
-        n += 1;
     }
-    n
+    bytes.len()
 }
 
 // Whether a byte is ignored: if so, whether a comment goes on behind it.
@@ -50,15 +49,11 @@ fn ignore(comment: bool, b: u8, before_hash: bool) -> Option<bool>
 fn hash_at(bytes: &[u8], at: usize) -> bool
     ensures { result ≡ hash (drop at bytes.now) }
 {
-    if at < bytes.len() {
-        bytes[at] == b'#'
-    } else {
-        false
-    }
+    bytes.get(at) == Some(&b'#')
 }
 
-// The token behind what is ignored, none at the end, or the place of a byte that begins no token.
-fn lex(source: &[u8], at: usize) -> Result<Option<Stretch>, usize>
+// The token behind what is ignored, none at the end, or why there is none.
+fn lex(source: &[u8], at: usize) -> Result<Option<Stretch>, ScanFault>
     requires { at ≤ length source.now }
     ensures token { result ≡ lexed source.now at }
     ensures within { EndsWithin (length source.now) result }
@@ -71,7 +66,7 @@ fn lex(source: &[u8], at: usize) -> Result<Option<Stretch>, usize>
     let end = place + len;
     let text = &source[place..end];
     let Some(kind) = state.kind(text) else {
-        return Err(place);
+        return Err(ScanCause::NoToken.at(place));
     };
     Ok(Some(Stretch {
         kind,
@@ -104,6 +99,26 @@ impl<'a> Scanner<'a> {
         }
     }
 
+    // The token ahead, none at the end, or why there is none.
+    fn ahead(&self) -> Result<Option<Token>, ScanFault>
+        ensures { result ≡ next_token (2048 - self.now.read) self.now.source.now self.now.at }
+    {
+        let Some(stretch) = lex(self.source, self.at)? else {
+            return Ok(None);
+        };
+        let place = stretch.place;
+        if self.read == MOST_TOKENS {
+            return Err(ScanCause::TooMany.at(place));
+        }
+        let value = stretch.value.ok_or(ScanCause::TooLarge.at(place))?;
+        let what = Lexeme {
+            kind: stretch.kind,
+            end: stretch.end,
+            value,
+        };
+        Ok(Some(Placed { what, place }))
+    }
+
     // The next token, none at the end, or why there is none. After a refusal the scanner stays
     // where it was.
     pub fn next(&mut self) -> Result<Option<Token>, ScanFault>
@@ -113,34 +128,15 @@ impl<'a> Scanner<'a> {
         ensures read { Counts self.old.read result self.new.read }
         ensures at { Moves self.old.at result (length self.old.source.now) self.new.at }
     {
-        let found = match lex(self.source, self.at) {
-            Ok(found) => found,
-            Err(place) => {
-                let what = ScanCause::NoToken;
-                return Err(Placed { what, place });
+        let ahead = self.ahead()?;
+        match ahead {
+            Some(token) => {
+                self.at = token.what.end;
+                self.read += 1;
             }
-        };
-        let Some(stretch) = found else {
-            self.at = self.source.len();
-            return Ok(None);
-        };
-        let place = stretch.place;
-        if self.read == MOST_TOKENS {
-            let what = ScanCause::TooMany;
-            return Err(Placed { what, place });
+            None => self.at = self.source.len(),
         }
-        let Some(value) = stretch.value else {
-            let what = ScanCause::TooLarge;
-            return Err(Placed { what, place });
-        };
-        self.at = stretch.end;
-        self.read += 1;
-        let what = Lexeme {
-            kind: stretch.kind,
-            end: stretch.end,
-            value,
-        };
-        Ok(Some(Placed { what, place }))
+        Ok(ahead)
     }
 }
 
@@ -149,14 +145,9 @@ pub fn count_tokens(source: &[u8]) -> Result<usize, ScanFault>
     ensures { result ≡ counted (scan source.now) }
 {
     if source.len() > MOST_BYTES {
-        let what = ScanCause::TooLong;
-        let place = MOST_BYTES;
-        return Err(Placed { what, place });
+        return Err(ScanCause::TooLong.at(MOST_BYTES));
     }
     let mut scanner = Scanner::new(source);
-    let mut count = 0;
-    while let Some(_token) = scanner.next()? {
-        count += 1;
-    }
-    Ok(count)
+    while scanner.next()?.is_some() {}
+    Ok(scanner.read)
 }

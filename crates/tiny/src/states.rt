@@ -42,20 +42,8 @@ impl State {
     {
         match self {
             State::Start => begin(b),
-            State::Word => {
-                if is_letter(b) || b.is_ascii_digit() {
-                    Some(State::Word)
-                } else {
-                    None
-                }
-            }
-            State::Digits => {
-                if b.is_ascii_digit() {
-                    Some(State::Digits)
-                } else {
-                    None
-                }
-            }
+            State::Word => (is_letter(b) || b.is_ascii_digit()).then_some(State::Word),
+            State::Digits => b.is_ascii_digit().then_some(State::Digits),
             State::Sign(_) => numeral(b),
             State::Order(_, both) => followed(b, b'=', both),
             State::Bang => followed(b, b'=', Kind::NotEqual),
@@ -69,23 +57,17 @@ impl State {
 fn followed(b: u8, second: u8, both: Kind) -> Option<State>
     ensures { result ≡ Automaton.followed b second both }
 {
-    if b == second {
-        Some(State::Whole(both))
-    } else {
-        None
-    }
+    (b == second).then_some(State::Whole(both))
 }
 
 // The digits of a literal begin with 0, which is then all of it, or with another digit.
 fn numeral(b: u8) -> Option<State>
     ensures { result ≡ numeral b }
 {
-    if b == b'0' {
-        Some(State::Zero)
-    } else if b.is_ascii_digit() {
-        Some(State::Digits)
-    } else {
-        None
+    match b {
+        b'0' => Some(State::Zero),
+        b'1'..=b'9' => Some(State::Digits),
+        _ => None,
     }
 }
 
@@ -133,19 +115,18 @@ fn mark(b: u8) -> Option<State>
 }
 
 // How many bytes at the front go into one token, and the state behind them.
+#[tactic(auto, using(crate::proofs::Reach::one_more, crate::proofs::Reach::no_more))]
 pub(crate) fn munch(bytes: &[u8]) -> (usize, State)
     ensures { result ≡ reach State.Start bytes.now }
 {
     let mut state = State::Start;
-    let mut n = 0;
-    while n < bytes.len() {
-        let Some(next) = state.step(bytes[n]) else {
+    for (n, b) in bytes.iter().enumerate() {
+        let Some(next) = state.step(*b) else {
             return (n, state);
         };
         state = next;
-        n += 1;
     }
-    (n, state)
+    (bytes.len(), state)
 }
 
 // A token of a kind from its place to its end. A literal outside int has no value, and what is no

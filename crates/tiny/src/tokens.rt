@@ -3,6 +3,7 @@ ghost use Rattle.std.specs.Prelude.{◌≡◌};
 ghost use Rattle.tiny.specs.Token.{code, is, class};
 
 use crate::placed::Placed;
+use std::fmt;
 
 #[derive(Clone, Copy, PartialEq, Eq, Debug)]
 pub enum Kind {
@@ -72,6 +73,26 @@ pub enum Class {
     // A reserved word that no rule of the language has a use for.
     Unused,
     Symbol,
+}
+
+impl fmt::Display for Class {
+    ghost use Rattle.std.specs.Prelude.{Some};
+    ghost use Rattle.std.specs.Fmt.{padded};
+    ghost use Rattle.tiny.specs.Words.{class_words};
+
+    ghost output = { λ class. Some (class_words class) };
+
+    ghost styled_output = { λ class spec. Some (padded spec (class_words class)) };
+
+    fn fmt<W: fmt::Write>(&self, f: &mut fmt::Formatter<W>) -> fmt::Result {
+        f.pad(match self {
+            Class::Name => "name",
+            Class::Literal => "literal",
+            Class::Word => "word",
+            Class::Unused => "word of no rule",
+            Class::Symbol => "symbol",
+        })
+    }
 }
 
 // The numbers of kinds.

@@ -1,14 +1,13 @@
-use Rattle.std.proofs.Common.{◌<◌, length, arith}
-use Rattle.reports.proofs.Counting.{since_at, since_not}
+use Rattle.std.proofs.Common.{take, reverse, rules, tests, sym, ◌∙◌}
+use Rattle.std.proofs.lemmas.Iterator.Adapters.{YieldsList-from_rev_slice}
+use Rattle.std.proofs.lemmas.Iterator.Consumers.{count_from_yields_List}
+use Rattle.std.proofs.lemmas.Iterator.Search.{YieldsList-from_take_while}
+use Rattle.std.proofs.lemmas.List.Folds.{length-prefix_len}
+use Rattle.reports.proofs.Counting.{within, since_counted}
 use Rattle.reports.proofs.lines.bytes_before.Goals as goal
-use Rattle.reports.proofs.lines.bytes_before.Goals.{then-source-i-eq10, else-source-i-eq10}
 
-pub loop-i-preserved : goal.loop-i-preserved
-loop-i-preserved c =
-    let s = c.args.source.now in
-    let i = c.loop-i.i in
-    let h : i < length s = omega arith in
-    elim c.if-source-i-eq10.branch [
-      | then-source-i-eq10 w ↦ (omega arith, omega (arith, w.bytes-is), omega (arith, w.bytes-is, since_at s i h w.if-source-i-eq10.true))
-      | else-source-i-eq10 w ↦ (omega arith, omega (arith, w.bytes-is), omega (arith, w.bytes-is, since_not s i h w.if-source-i-eq10.false))
-    ]
+pub returns-clause-count : goal.returns-clause-count
+returns-clause-count c =
+    let before = take c.args.at c.args.source.now in
+    let counted = count_from_yields_List _ c.count.result c.count.ensures.ran (YieldsList-from_take_while _ within (YieldsList-from_rev_slice before cc) c.take_while.ensures.closure c.take_while.ensures.done (λ x b q k. search (rules, tests))) in
+    counted ∙ length-prefix_len within (reverse before) ∙ sym (since_counted before)

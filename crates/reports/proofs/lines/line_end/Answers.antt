@@ -1,20 +1,14 @@
-use Rattle.std.proofs.Common.{◌<◌, length, arith}
-use Rattle.reports.proofs.Counting.{stops_at, goes_on, ends_there}
+use Rattle.std.proofs.Common.{ℕ, ◌+◌, drop, rules, tests, sym, ap, ◌∙◌}
+use Rattle.std.proofs.lemmas.List.{take_rest}
+use Rattle.std.proofs.lemmas.Iterator.{YieldsList-from_slice}
+use Rattle.std.proofs.lemmas.Iterator.Consumers.{count_from_yields_List}
+use Rattle.std.proofs.lemmas.Iterator.Search.{YieldsList-from_take_while}
+use Rattle.std.proofs.lemmas.List.Folds.{length-prefix_len}
+use Rattle.reports.proofs.Counting.{within, length_counted}
 use Rattle.reports.proofs.lines.line_end.Goals as goal
 
-pub returns-then-source-i-eq10 : goal.returns-then-source-i-eq10
-returns-then-source-i-eq10 c =
-    let s = c.args.source.now in
-    let i = c.loop-i.i in
-    let h : i < length s = omega arith in
-    omega (arith, c.loop-i.invariant.1, stops_at s i h c.if-source-i-eq10.true)
-
-pub loop-i-preserved : goal.loop-i-preserved
-loop-i-preserved c =
-    let s = c.args.source.now in
-    let i = c.loop-i.i in
-    let h : i < length s = omega arith in
-    (omega arith, omega (arith, c.loop-i.invariant.1, goes_on s i h c.if-source-i-eq10.false))
-
 pub returns : goal.returns
-returns c = omega (arith, c.loop-i.invariant.1, ends_there c.args.source.now c.loop-i.i c.loop-i-test.false)
+returns c =
+    let rest = drop c.args.at c.args.source.now in
+    let counted = count_from_yields_List _ c.count.result c.count.ensures.ran (YieldsList-from_take_while _ within (YieldsList-from_slice rest (cc (take_rest c.args.source.now c.args.at))) c.take_while.ensures.closure c.take_while.ensures.done (λ x b q k. search (rules, tests))) in
+    ap (λ (n : ℕ). c.args.at + n) (counted ∙ length-prefix_len within rest ∙ sym (length_counted rest))

@@ -1,4 +1,4 @@
-use Rattle.std.proofs.Common.{ℕ, ◌+◌, false, sym, ap, ◌∙◌, arith, rules}
+use Rattle.std.proofs.Common.{ℕ, ◌+◌, false, Err, sym, ap, ◌∙◌, arith, rules}
 use Rattle.std.proofs.lemmas.List.{take_rest}
 use Rattle.tiny.specs.declared.states.State.TheVariants.{Start}
 use Rattle.tiny.specs.Automaton.{skip, reach}
@@ -35,16 +35,14 @@ returns-then-place-source c =
       token = lexed_end source c.args.at _ (ap (λ (n : ℕ). c.args.at + n) skipped) c.if-place-source.true;
     }
 
-pub returns-in_default : goal.returns-in_default
-returns-in_default c =
+pub returns-in_default-clause-token : goal.returns-in_default-clause-token
+returns-in_default-clause-token c =
     let source = c.args.source.now in
     let place = c.args.at + c.ignored.result in
     let skipped = c.ignored.ensures ∙ ap (skip false) (take_rest source c.args.at) in
-    record {
-      within = tt;
-      token = lexed_bad source c.args.at place (ap (λ (n : ℕ). c.args.at + n) skipped) c.if-place-source.false _ _
-          (c.munch-len.ensures ∙ ap (reach Start) (take_rest source place)) (sym c.kind.ensures ∙ c.in_default.is);
-    }
+    ap Err c.at.ensures
+    ∙ lexed_bad source c.args.at place (ap (λ (n : ℕ). c.args.at + n) skipped) c.if-place-source.false _ _
+    (c.munch-len.ensures ∙ ap (reach Start) (take_rest source place)) (sym c.kind.ensures ∙ c.in_default.is)
 
 pub returns : goal.returns
 returns c =

@@ -1,77 +1,26 @@
-use Rattle.std.proofs.Common.{◌≡◌, suc, ◌+◌, ◌-◌, ◌≤◌, length, Some, None, Ok, Err, sym, refl, ◌∙◌, arith, w32, SFits, rules}
-use Rattle.std.proofs.lemmas.Int.{to_z-of_z}
-use Rattle.tiny.proofs.Lexed.{lexed_end}
-use Rattle.tiny.proofs.Counted.{scan_ends, scan_bad, scan_full, scan_out, scan_on, hands_bad, hands_end, hands_full, hands_out, hands_on}
+use Rattle.std.proofs.Common.{refl, ◌∙◌, sym, ap, Ok, Err, None, arith, ◌-◌}
+use Rattle.std.proofs.lemmas.Result.{err_from_is_err_and}
+use Rattle.tiny.proofs.Counted.{takes, next_within}
 use Rattle.tiny.proofs.scanner.Scanner.next.Goals as goal
 
-pub returns-in-Err : goal.returns-in-Err
-returns-in-Err c =
+pub returns-in_err-ahead-clause-left : goal.returns-in_err-ahead-clause-left
+returns-in_err-ahead-clause-left c =
     let s = c.args.self.now in
-    let is : c.lex.result ≡ Err c.in-Err.place = cc in
-    let e = sym c.lex.ensures.token ∙ is in
-    record {
-      source = refl;
-      token = hands_bad (2048 - s.read) s.source.now s.at c.in-Err.place e;
-      left = (scan_bad (2048 - s.read) s.source.now s.at c.in-Err.place e, refl);
-      read = refl;
-      at = refl;
-    }
+    let p = err_from_is_err_and c.from_residual.result c.from_residual.ensures.1 in
+    rw p.1 (takes s.read s.at s.read s.at s.source.now s.few (Err p.0) (ap Err p.2 ∙ sym c.in_err-ahead.was ∙ c.ahead.ensures) refl refl)
 
-pub returns-in_default : goal.returns-in_default
-returns-in_default c =
+pub invariant_of-self : goal.invariant_of-self
+invariant_of-self c =
     let s = c.args.self.now in
-    let is : c.lex.result ≡ Ok None = cc in
-    let e = sym c.lex.ensures.token ∙ is in
-    let source = s.source.now in
-    record {
-      source = refl;
-      token = hands_end (2048 - s.read) source s.at e;
-      left = (scan_ends (2048 - s.read) source s.at e, scan_ends (2048 - s.read) source (length source) (sym (lexed_end source (length source) _ refl (omega arith))));
-      read = refl;
-      at = refl;
-    }
+    let (within, room) = next_within (2048 - s.read) s.source.now s.at c.in-Some.token s.within (sym c.ahead.ensures ∙ c.in_ok-ahead.was ∙ ap Ok c.in-Some.is) in
+    record { within = within; few = omega arith }
 
-pub returns-then-self-eq-MOST_TOKENS : goal.returns-then-self-eq-MOST_TOKENS
-returns-then-self-eq-MOST_TOKENS c =
+pub returns-in-Some-clause-left : goal.returns-in-Some-clause-left
+returns-in-Some-clause-left c =
     let s = c.args.self.now in
-    let is : c.lex.result ≡ Ok (Some c.in-Some.stretch) = cc in
-    let e = sym c.lex.ensures.token ∙ is in
-    let full : 2048 - s.read ≡ 0 = omega arith in
-    record {
-      source = refl;
-      token = hands_full (2048 - s.read) s.source.now s.at c.in-Some.stretch e full;
-      left = (scan_full (2048 - s.read) s.source.now s.at c.in-Some.stretch e full, refl);
-      read = refl;
-      at = refl;
-    }
+    takes s.read s.at _ _ s.source.now s.few _ (sym (ap Ok c.in-Some.is) ∙ sym c.in_ok-ahead.was ∙ c.ahead.ensures) (omega arith) refl
 
-pub returns-in_default-value : goal.returns-in_default-value
-returns-in_default-value c =
+pub returns-in-None-clause-left : goal.returns-in-None-clause-left
+returns-in-None-clause-left c =
     let s = c.args.self.now in
-    let is : c.lex.result ≡ Ok (Some c.in-Some.stretch) = cc in
-    let e = sym c.lex.ensures.token ∙ is in
-    let few : s.read ≤ 2048 = s.few in
-    let some : 2048 - s.read ≡ suc (2048 - (s.read + 1)) = omega (arith, c.if-self-eq-MOST_TOKENS.false) in
-    record {
-      source = refl;
-      token = hands_out (2048 - s.read) s.source.now s.at c.in-Some.stretch e _ some c.in_default-value.is;
-      left = (scan_out (2048 - s.read) s.source.now s.at c.in-Some.stretch e _ some c.in_default-value.is, refl);
-      read = refl;
-      at = refl;
-    }
-
-pub returns : goal.returns
-returns c =
-    let s = c.args.self.now in
-    let is : c.lex.result ≡ Ok (Some c.in-Some.stretch) = cc in
-    let e = sym c.lex.ensures.token ∙ is in
-    let few : s.read ≤ 2048 = s.few in
-    let some : 2048 - s.read ≡ suc (2048 - (s.read + 1)) = omega (arith, c.if-self-eq-MOST_TOKENS.false) in
-    let fits : SFits w32 c.in-Some-value.value = search rules in
-    record {
-      source = refl;
-      token = simp to_z-of_z (hands_on (2048 - s.read) s.source.now s.at c.in-Some.stretch e _ c.in-Some-value.value some c.in-Some-value.is);
-      left = simp to_z-of_z (scan_on (2048 - s.read) s.source.now s.at c.in-Some.stretch e _ c.in-Some-value.value some c.in-Some-value.is);
-      read = omega arith;
-      at = refl;
-    }
+    rw c.in-None.is (takes s.read s.at _ _ s.source.now s.few (Ok None) (ap Ok (sym c.in-None.is) ∙ sym c.in_ok-ahead.was ∙ c.ahead.ensures) refl refl)

@@ -1,4 +1,4 @@
--- Refusals and tokens in words.
+-- Refusals before the parse, and the classes of tokens, in words.
 use Rattle.std.specs.Prelude.{ℕ, List, codes}
 use Rattle.tiny.specs.declared.faults.ScanCause.{ScanCause}
 use Rattle.tiny.specs.declared.faults.ScanCause.TheVariants.{TooLong, NoToken, TooLarge, TooMany}
