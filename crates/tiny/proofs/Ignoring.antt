@@ -1,16 +1,14 @@
 -- What the scanner passes over is what is ignored.
-use Rattle.std.proofs.Common.{◌≡◌, ℕ, suc, Bool, true, false, cond, not, ◌&&◌, eqb, List, [], ◌∷◌, ◌++◌, drop, Some, None, Option, sym, refl, ap, ◌∙◌, subst, ap₂, arith}
+use Rattle.std.proofs.Common.{◌≡◌, ℕ, suc, Bool, true, false, cond, not, ◌&&◌, eqb, List, [], ◌∷◌, ◌++◌, drop, Some, None, sym, refl, ap, ◌∙◌, subst, ap₂, arith}
 use Rattle.std.proofs.lemmas.Bool.{eqb-true, eq-eqb, and_parts, true≢false, false≢true}
 use Rattle.tiny.specs.Spelling.{Every, blank, in_line, LineEnds, Ignored}
 use Rattle.tiny.specs.Spelling.Ignored.{nothing, blanks, comment}
 use Rattle.tiny.specs.Automaton.{hash, skip}
+use Rattle.tiny.proofs.Reach.{past}
 
 -- the bytes that are left
 abbrev left : Bool → List ℕ → List ℕ
 left c bs = drop (skip c bs) bs
-
-abbrev past : Option Bool → List ℕ → ℕ
-past o bs = elim o [ Some c ↦ suc (skip c bs) | None ↦ 0 ]
 
 -- inside a comment: the rest of its line, and what is ignored behind
 abbrev Inside : List ℕ → List ℕ → Type 0

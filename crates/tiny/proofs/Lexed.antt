@@ -1,6 +1,6 @@
 -- The next token, from the parts that the scanner finds.
 use Rattle.std.proofs.Common.{◌≡◌, ℕ, ◌+◌, ◌-◌, ◌<◌, ◌≤◌, Bool, true, false, leb, List, length, take, drop, ℤ, Some, None, Ok, Err, Option, Result, sym, ap, ◌∙◌, arith}
-use Rattle.std.proofs.lemmas.List.{length-drop}
+use Rattle.std.proofs.lemmas.List.{length-drop, take_rest}
 use Rattle.std.proofs.lemmas.Bool.{le-leb, lt-leb}
 use Rattle.tiny.specs.declared.tokens.Kind.{Kind}
 use Rattle.tiny.specs.Spelling.{meaning}
@@ -20,6 +20,13 @@ skip_in source at n h e = omega (arith, e, skip_within false (drop at source), l
 
 pub reach_in : (source : List ℕ) (place : ℕ) (p : ℕ × State) → place ≤ length source → p ≡ reach Start (drop place source) → place + p.0 ≤ length source
 reach_in source place p h e = omega (arith, ap (λ (q : ℕ × State). q.0) e, reach_within Start (drop place source), length-drop place source)
+
+-- the parts that the scanner finds in what is left of the source
+pub place_from : (source : List ℕ) (at n : ℕ) → n ≡ skip false (take (length source - at) (drop at source)) → at + n ≡ at + skip false (drop at source)
+place_from source at n e = ap (λ (m : ℕ). at + m) (e ∙ ap (skip false) (take_rest source at))
+
+pub reached_from : (source : List ℕ) (place : ℕ) (p : ℕ × State) → p ≡ reach Start (take (length source - place) (drop place source)) → p ≡ reach Start (drop place source)
+reached_from source place p e = e ∙ ap (reach Start) (take_rest source place)
 
 abbrev pub from : Bool → ℕ → List ℕ → Result (Option Stretch) (Placed ScanCause)
 from past place source = elim past [ true ↦ Ok None | false ↦ lexeme place (drop place source) (reach Start (drop place source)) ]

@@ -34,10 +34,11 @@ reach_within s (b ∷ bs) = go (step s b) (λ t. reach_within t bs)
     go (Some t) ih = let h = ih t in omega arith
     go None ih = omega arith
 
--- the turns of the loop over what is ignored
-abbrev past : Option Bool → List ℕ → ℕ
+-- what `skip` does at its first byte
+abbrev pub past : Option Bool → List ℕ → ℕ
 past o bs = elim o [ Some c ↦ suc (skip c bs) | None ↦ 0 ]
 
+-- the turns of the loop over what is ignored
 module _ (c : Bool) (bs : List ℕ) (i : ℕ) where
   pub ignored_more : (d : Bool) → i < length bs → ignore c (get_or bs i 0) (hash (drop (i + 1) bs)) ≡ Some d → i + skip c (drop i bs) ≡ (i + 1) + skip d (drop (i + 1) bs)
   ignored_more d h e =

@@ -1,6 +1,8 @@
 -- The automaton takes the texts that are tokens, and no other.
 use Rattle.std.proofs.Common.{◌≡◌, ℕ, zero, suc, ◌+◌, ◌<◌, ◌≤◌, Bool, true, false, cond, ◌&&◌, eqb, ◌⊎◌, List, [], ◌∷◌, map, length, get_or, Some, None, Option, sym, refl, ap, ◌∙◌, subst, ap₂, inl, inr, arith, lit<}
-use Rattle.std.proofs.lemmas.Bool.{eqb-true, eqb-false, eq-eqb, ne_eqb, leb-true, le-leb, lt-leb, and_parts, and_from, and_left, or_from, or_left, or_right, true≢false, false≢true}
+use Rattle.std.proofs.lemmas.Bool.{eqb-true, eqb-false, ne_eqb, leb-true, le-leb, lt-leb, and_parts, and_from, and_left, or_from, or_left, or_right, true≢false, false≢true}
+use Rattle.std.proofs.lemmas.Slice.Eq.{bytes_eq-Decides}
+use Rattle.std.specs.Str.{bytes_eq}
 use Rattle.tiny.specs.declared.tokens.Kind.{Kind}
 use Rattle.tiny.specs.declared.tokens.Kind.TheVariants.{Name, Literal, Plus, Minus, Times, Over, Percent, Less, Greater, LessEqual, GreaterEqual, Equal, NotEqual, Open, Close, Semicolon, Becomes, Index, IndexEnd, Dot, Caret, Comma, Brace, BraceEnd, Ampersand, DoubleAmpersand, At}
 use Rattle.tiny.specs.declared.states.State.{State}
@@ -18,38 +20,19 @@ abbrev pub then : Option State → List ℕ → Option State
 then o bs = elim o [ Some t ↦ after t bs | None ↦ None ]
 
 pub some_none : {A B : Type 0} {x : A} {o : Option A} → o ≡ Some x → o ≡ None → B
-some_none e n = absurd (let z : ◌≡◌ {A = ℕ} 0 1 = cc in omega arith)
+some_none e n = cc
 
 -- words
-equal : List ℕ → List ℕ → Bool
-equal [] [] = true
-equal [] (w ∷ ws) = false
-equal (b ∷ bs) [] = false
-equal (b ∷ bs) (w ∷ ws) = eqb b w && equal bs ws
-
-same_equal : (bs ws : List ℕ) → same bs ws ≡ equal (map lower bs) ws
-unfolding equal
+same_equal : (bs ws : List ℕ) → same bs ws ≡ bytes_eq (map lower bs) ws
 same_equal [] [] = refl
 same_equal [] (w ∷ ws) = refl
 same_equal (b ∷ bs) [] = refl
 same_equal (b ∷ bs) (w ∷ ws) = ap (λ (c : Bool). eqb (lower b) w && c) (same_equal bs ws)
 
-equal_true : (bs ws : List ℕ) → equal bs ws ≡ true → bs ≡ ws
-unfolding equal
-equal_true [] [] e = refl
-equal_true [] (w ∷ ws) e = absurd (false≢true e)
-equal_true (b ∷ bs) [] e = absurd (false≢true e)
-equal_true (b ∷ bs) (w ∷ ws) e = let (p, q) = and_parts _ _ e in ap₂ (λ (x : ℕ) (xs : List ℕ). x ∷ xs) (eqb-true b w p) (equal_true bs ws q)
-
-equal_refl : (bs : List ℕ) → equal bs bs ≡ true
-unfolding equal
-equal_refl [] = refl
-equal_refl (b ∷ bs) = and_from _ _ (eq-eqb b b refl) (equal_refl bs)
-
 -- the kind of a word without its letter case
 find : Table → List ℕ → Kind
 find [] w = Name
-find (e ∷ es) w = cond (equal w e.0) e.1 (find es w)
+find (e ∷ es) w = cond (bytes_eq w e.0) e.1 (find es w)
 
 word_find : (t : Table) (bs : List ℕ) → word_kind t bs ≡ find t (map lower bs)
 unfolding find
@@ -59,12 +42,12 @@ word_find (e ∷ es) bs = ap₂ (λ (c : Bool) (k : Kind). cond c e.1 k) (same_e
 find_cases : (t : Table) (w : List ℕ) → ((find t w ≡ Name) × ((k : Kind) → Listed t w k → ⊥)) ⊎ Listed t w (find t w)
 unfolding find
 find_cases [] w = inl (refl, λ k l. l)
-find_cases (e ∷ es) w = go (equal w e.0) refl (find_cases es w)
+find_cases (e ∷ es) w = go (bytes_eq w e.0) refl (find_cases es w)
   where
-    go : (c : Bool) → equal w e.0 ≡ c → ((find es w ≡ Name) × ((k : Kind) → Listed es w k → ⊥)) ⊎ Listed es w (find es w) →
+    go : (c : Bool) → bytes_eq w e.0 ≡ c → ((find es w ≡ Name) × ((k : Kind) → Listed es w k → ⊥)) ⊎ Listed es w (find es w) →
         ((cond c e.1 (find es w) ≡ Name) × ((k : Kind) → Listed (e ∷ es) w k → ⊥)) ⊎ Listed (e ∷ es) w (cond c e.1 (find es w))
-    go true c≡ ih = inr (inl (equal_true w e.0 c≡, refl))
-    go false c≡ (inl h) = inl (h.0, λ k l. elim l [ inl p ↦ true≢false (sym (ap (equal w) (sym p.0) ∙ equal_refl w) ∙ c≡) | inr l ↦ h.1 k l ])
+    go true c≡ ih = inr (inl ((bytes_eq-Decides w e.0).0 c≡, refl))
+    go false c≡ (inl h) = inl (h.0, λ k l. elim l [ inl p ↦ true≢false (sym (ap (bytes_eq w) (sym p.0) ∙ (bytes_eq-Decides w w).1 refl) ∙ c≡) | inr l ↦ h.1 k l ])
     go false c≡ (inr l) = inr (inr l)
 
 -- what holds of each entry of a table holds of what is listed
@@ -78,7 +61,7 @@ each P (e ∷ es) w k h (inl p) = subst (λ (x : List ℕ). P x k) (sym p.0) (su
 each P (e ∷ es) w k h (inr l) = each P es w k h.1 l
 
 find_listed : (w : List ℕ) (k : Kind) → Listed words w k → find words w ≡ k
-unfolding find equal
+unfolding find
 find_listed w k l = each (λ (w : List ℕ) (k : Kind). find words w ≡ k) words w k
     (refl, (refl, (refl, (refl, (refl, (refl, (refl, (refl, (refl, (refl, (refl, (refl, (refl, (refl, (refl, (refl, (refl, (refl, (refl, (refl, (refl, (refl, tt)))))))))))))))))))))) l
 

@@ -12,7 +12,7 @@ use Rattle.tiny.specs.Automaton.{begin, reach, hash, ignore, skip}
 use Rattle.tiny.specs.Scan.{formed, lexed, Scanned, with_token, token, scan_from}
 use Rattle.tiny.specs.Law.{Longest, Scans, ScanIs, OneKind}
 use Rattle.tiny.specs.Law.Scans.{ends, no_token, too_many, too_large, reads}
-use Rattle.tiny.proofs.Reach.{on, skip_within}
+use Rattle.tiny.proofs.Reach.{on, past, skip_within}
 use Rattle.tiny.proofs.Lexed.{from, here, lexed_end, skip_in}
 use Rattle.tiny.proofs.Counted.{scan_ends, scan_bad, scan_full, scan_out, scan_on, scan_long, scan_short}
 use Rattle.tiny.proofs.Spelled.{some_none}
@@ -32,11 +32,7 @@ blank_begins b h = elim (or_cases _ _ h) [
   | inr h ↦ ap begin (eqb-true b 10 h)
 ]
 
-past : Option Bool → List ℕ → ℕ
-past o bs = elim o [ Some c ↦ suc (skip c bs) | None ↦ 0 ]
-
 token_first : (bs : List ℕ) (k : Kind) → kind_of bs ≡ Some k → skip false bs ≡ 0
-unfolding past
 token_first [] k e = refl
 token_first (b ∷ bs) k e = go (eqb b 35) (blank b) refl refl
   where

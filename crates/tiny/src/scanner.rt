@@ -19,7 +19,8 @@ pub const MOST_TOKENS: usize = 2048;
 // How many bytes at the front are ignored: blanks, and comments from `##` to the end of the line.
 #[tactic(auto, using(crate::proofs::Reach::ignored_more, crate::proofs::Reach::ignored_no_more))]
 fn ignored(bytes: &[u8]) -> usize
-    ensures { result ≡ skip false bytes.now }
+    ensures skipped { result ≡ skip false bytes.now }
+    ensures within { result ≤ length bytes.now }
 {
     let mut comment = false;
     for (n, b) in bytes.iter().enumerate() {

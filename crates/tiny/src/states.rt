@@ -1,5 +1,5 @@
 // The scanner's automaton: the bytes of a token, one after the other.
-ghost use Rattle.std.specs.Prelude.{◌≡◌};
+ghost use Rattle.std.specs.Prelude.{◌≡◌, ◌≤◌, length};
 ghost use Rattle.tiny.specs.Automaton.{step, reach, numeral, begin, kind};
 ghost use Rattle.tiny.specs.Automaton;
 
@@ -117,7 +117,8 @@ fn mark(b: u8) -> Option<State>
 // How many bytes at the front go into one token, and the state behind them.
 #[tactic(auto, using(crate::proofs::Reach::one_more, crate::proofs::Reach::no_more))]
 pub(crate) fn munch(bytes: &[u8]) -> (usize, State)
-    ensures { result ≡ reach State.Start bytes.now }
+    ensures reached { result ≡ reach State.Start bytes.now }
+    ensures within { result.0 ≤ length bytes.now }
 {
     let mut state = State::Start;
     for (n, b) in bytes.iter().enumerate() {
