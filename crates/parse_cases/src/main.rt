@@ -14,7 +14,16 @@ fn ask(source: &[u8], cells: &mut [Node]) -> Result<usize, ParseFault> {
     parse(source, &mut Table::over(cells))
 }
 
-// A source of 2,048 tokens: the head, and then the part again and again.
+// The head of a rule, a part, and how often the part stands behind: 2,048 tokens.
+const NESTED: [(&str, &str, usize, &str); 5] = [
+    ("{@", "(", 2046, "2046 parentheses"),
+    ("", "{", 2048, "2048 braces"),
+    ("{@", "-", 2046, "2046 signs"),
+    ("{@x", "[x", 1022, "1022 brackets"),
+    ("{", "if x{", 682, "682 conditions"),
+];
+
+// A source: the head, and then the part again and again.
 fn nested(heap: Global, head: &str, part: &str, times: usize) -> Result<String, AllocError> {
     format!(in heap; "{head}{}", part.repeat(heap, times)?)
 }
@@ -33,34 +42,9 @@ fn main(rt: HostRuntime) -> io::Result<()> {
     for line in text.as_str().lines() {
         tell(&rt, ask(line.as_bytes(), cells.as_mut_slice()), line)?;
     }
-    let parentheses = nested(heap, "{@", "(", 2046)?;
-    tell(
-        &rt,
-        ask(parentheses.as_bytes(), cells.as_mut_slice()),
-        "2046 parentheses",
-    )?;
-    let braces = nested(heap, "", "{", 2048)?;
-    tell(
-        &rt,
-        ask(braces.as_bytes(), cells.as_mut_slice()),
-        "2048 braces",
-    )?;
-    let signs = nested(heap, "{@", "-", 2046)?;
-    tell(
-        &rt,
-        ask(signs.as_bytes(), cells.as_mut_slice()),
-        "2046 signs",
-    )?;
-    let brackets = nested(heap, "{@x", "[x", 1022)?;
-    tell(
-        &rt,
-        ask(brackets.as_bytes(), cells.as_mut_slice()),
-        "1022 brackets",
-    )?;
-    let conditions = nested(heap, "{", "if x{", 682)?;
-    tell(
-        &rt,
-        ask(conditions.as_bytes(), cells.as_mut_slice()),
-        "682 conditions",
-    )
+    for (head, part, times, name) in NESTED {
+        let source = nested(heap, head, part, times)?;
+        tell(&rt, ask(source.as_bytes(), cells.as_mut_slice()), name)?;
+    }
+    Ok(())
 }

@@ -1,4 +1,5 @@
 // The words of the command.
+use std::error::Error;
 use std::fmt;
 
 pub const HELP: &str =
@@ -13,7 +14,7 @@ pub enum Command {
 }
 
 // Why the words are not those of a command.
-#[derive(Drop)]
+#[derive(Debug, Drop)]
 pub enum Misuse {
     // No command has this name.
     Unknown(String),
@@ -29,6 +30,8 @@ impl fmt::Display for Misuse {
         }
     }
 }
+
+impl Error for Misuse {}
 
 // The command that the words make.
 pub fn read(

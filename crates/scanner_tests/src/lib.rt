@@ -4,7 +4,7 @@
 #[cfg(test)]
 mod tests {
     use tiny::scanner::{Scanner, count_tokens};
-    use tiny::tokens::Kind;
+    use tiny::tokens::{Kind, Lexeme};
 
     // How many tokens there are, or the number and the place of the refusal.
     fn answer(source: &[u8]) -> Result<usize, (u8, usize)> {
@@ -13,12 +13,8 @@ mod tests {
 
     // Whether the first token is of this kind, with this end and value.
     fn begins(source: &[u8], kind: Kind, end: usize, value: i32) -> bool {
-        match Scanner::new(source).next() {
-            Ok(Some(token)) => {
-                token.what.kind == kind && token.what.end == end && token.what.value == value
-            }
-            _ => false,
-        }
+        let first = Scanner::new(source).next();
+        matches!(first, Ok(Some(token)) if token.what == Lexeme { kind, end, value })
     }
 
     #[test]

@@ -3,6 +3,7 @@ ghost use Rattle.std.specs.Prelude.{◌≡◌};
 ghost use Rattle.tiny.specs.Refusals.{scan_number};
 
 use crate::placed::Placed;
+use std::error::Error;
 use std::fmt;
 
 #[derive(Clone, Copy, PartialEq, Eq, Debug)]
@@ -58,3 +59,5 @@ impl fmt::Display for ScanCause {
         }
     }
 }
+
+impl Error for ScanCause {}

@@ -143,7 +143,7 @@ impl Kind {
 
 // A token of a kind, which ends before `end`. The value is that of a literal, and 0 of any other
 // token.
-#[derive(Clone, Copy)]
+#[derive(Clone, Copy, PartialEq, Eq, Debug)]
 pub struct Lexeme {
     pub kind: Kind,
     pub end: usize,
