@@ -85,24 +85,10 @@ pub counts_on : (source : List ℕ) (n n' : ℕ) (before after : Scanned) (o : O
 counts_on source n n' before after None h e c = absurd (false≢true h)
 counts_on source n n' before after (Some t) h e c = (c, ap (λ (s : Scanned). plus n (counted s)) e ∙ plus_token n (token_in source t) after ∙ ap (λ (m : ℕ). plus m (counted after)) (omega arith))
 
--- what the scanner hands out
-module _ (room : ℕ) (source : List ℕ) (at : ℕ) where
-  pub hands_bad : (f : Placed ScanCause) → lexed source at ≡ Err f → Err f ≡ next_token room source at
-  hands_bad f e = ap (handing room) (sym e)
-
-  pub hands_end : lexed source at ≡ Ok None → Ok None ≡ next_token room source at
-  hands_end e = ap (handing room) (sym e)
-
-  module _ (t : Stretch) (e : lexed source at ≡ Ok (Some t)) where
-    pub hands_full : room ≡ 0 → Err (record { what = TooMany; place = t.place }) ≡ next_token room source at
-    hands_full z = ap (λ (m : ℕ). handed m t t.value) (sym z) ∙ ap (handing room) (sym e)
-
-    pub hands_out : (m : ℕ) → room ≡ suc m → t.value ≡ None → Err (record { what = TooLarge; place = t.place }) ≡ next_token room source at
-    hands_out m z v = ap (handed (suc m) t) (sym v) ∙ ap (λ (m : ℕ). handed m t t.value) (sym z) ∙ ap (handing room) (sym e)
-
-    pub hands_on : (m : ℕ) (v : ℤ) → room ≡ suc m → t.value ≡ Some v →
-        Ok (Some (record { what = record { kind = t.kind; end = t.end; value = v }; place = t.place })) ≡ next_token room source at
-    hands_on m v z v≡ = ap (handed (suc m) t) (sym v≡) ∙ ap (λ (m : ℕ). handed m t t.value) (sym z) ∙ ap (handing room) (sym e)
+-- a literal outside int is handed out as a fault
+pub hands_out : (room : ℕ) (source : List ℕ) (at : ℕ) (t : Stretch) → lexed source at ≡ Ok (Some t) → (m : ℕ) → room ≡ suc m → t.value ≡ None →
+    Err (record { what = TooLarge; place = t.place }) ≡ next_token room source at
+hands_out room source at t e m z v = ap (handed (suc m) t) (sym v) ∙ ap (λ (m : ℕ). handed m t t.value) (sym z) ∙ ap (handing room) (sym e)
 
 -- what one call of the scanner takes from what is left
 module _ (read at read' at' : ℕ) (source : List ℕ) (few : read ≤ 2048) where

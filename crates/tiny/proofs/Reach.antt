@@ -1,6 +1,6 @@
 -- How far the scanner goes: the turns of its loops.
 use Rattle.std.proofs.Common.{◌≡◌, ℕ, suc, ◌+◌, ◌<◌, ◌≤◌, Bool, List, [], ◌∷◌, length, get_or, drop, Some, None, Option, ap, ◌∙◌, arith}
-use Rattle.std.proofs.lemmas.List.{drop_more, drop_all}
+use Rattle.std.proofs.lemmas.List.{drop_more}
 use Rattle.tiny.specs.declared.states.State.{State}
 use Rattle.tiny.specs.Automaton.{step, reach, hash, ignore, skip}
 
@@ -23,9 +23,6 @@ module _ (s : State) (bs : List ℕ) (i : ℕ) where
       ap (λ (l : List ℕ). shifted i (reach s l)) (drop_more bs i 0 h) ∙ ap (λ (o : Option State). shifted i (on o s (drop (i + 1) bs))) e
       ∙ ap (λ (n : ℕ). (n, s)) (omega arith)
 
-  pub at_end : length bs ≤ i → shifted i (reach s (drop i bs)) ≡ (i, s)
-  at_end h = ap (λ (l : List ℕ). shifted i (reach s l)) (drop_all i bs h) ∙ ap (λ (n : ℕ). (n, s)) (omega arith)
-
 pub reach_within : (s : State) (bs : List ℕ) → (reach s bs).0 ≤ length bs
 reach_within s [] = omega arith
 reach_within s (b ∷ bs) = go (step s b) (λ t. reach_within t bs)
@@ -47,9 +44,6 @@ module _ (c : Bool) (bs : List ℕ) (i : ℕ) where
   pub ignored_no_more : i < length bs → ignore c (get_or bs i 0) (hash (drop (i + 1) bs)) ≡ None → i + skip c (drop i bs) ≡ i
   ignored_no_more h e =
       ap (λ (l : List ℕ). i + skip c l) (drop_more bs i 0 h) ∙ ap (λ (o : Option Bool). i + past o (drop (i + 1) bs)) e ∙ omega arith
-
-  pub ignored_end : length bs ≤ i → i + skip c (drop i bs) ≡ i
-  ignored_end h = ap (λ (l : List ℕ). i + skip c l) (drop_all i bs h) ∙ omega arith
 
 pub skip_within : (c : Bool) (bs : List ℕ) → skip c bs ≤ length bs
 skip_within c [] = omega arith

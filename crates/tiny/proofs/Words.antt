@@ -24,7 +24,7 @@ number_grows n (d ∷ ds) = let h = number_grows (n * 10 + (d - 48)) ds in omega
 abbrev pub cap : ℕ → ℕ
 cap n = min n 2147483649
 
-pub capped : (n : ℕ) (ds : List ℕ) → cap (number n ds) ≡ cap (number (cap n) ds)
+capped : (n : ℕ) (ds : List ℕ) → cap (number n ds) ≡ cap (number (cap n) ds)
 capped n ds = elim (cases_lt n 2147483649) [
   | inl h ↦ ap (λ (m : ℕ). cap (number m ds)) (let e : n ≡ cap n = omega arith in e)
   | inr h ↦ omega (arith, number_grows n ds, number_grows (cap n) ds)
