@@ -1,5 +1,5 @@
 // An instruction as a number and three operands.
-ghost use Rattle.std.specs.Prelude.{◌≡◌, ◌≤◌};
+ghost use Rattle.std.specs.Prelude.{◌≡◌, ◌≤◌, length, take, Some, None, MatchResult};
 ghost use Rattle.shelves.specs.Parts.{arity, instruction_of, parts_of};
 
 use crate::groups::{fold_sign, unfold_sign};
@@ -11,6 +11,10 @@ pub(crate) struct Parts {
     pub code: u8,
     pub operands: [u32; 3],
 }
+
+// A code number that no instruction has.
+#[derive(Debug, Drop)]
+pub(crate) struct UnknownCode;
 
 // How many operands the instruction of a code number has.
 pub(crate) fn arity(code: u8) -> usize
@@ -32,10 +36,19 @@ impl Parts {
         Parts { code, operands }
     }
 
-    // The parts of an instruction.
-    pub(crate) fn of(instruction: Instruction) -> Self
-        ensures { result ≡ parts_of instruction }
+    // The operands that are present.
+    pub(crate) fn present(&self) -> &[u32]
+        ensures value { result.now ≡ take (arity self.now.code) self.now.operands }
+        ensures most { length result.now ≤ 3 }
     {
+        &self.operands[..arity(self.code)]
+    }
+}
+
+impl From<Instruction> for Parts {
+    ghost from_gives = { λ i parts. parts ≡ parts_of i };
+
+    fn from(instruction: Instruction) -> Self {
         match instruction {
             Instruction::Lit(value) => Parts::new(0, [fold_sign(value), 0, 0]),
             Instruction::Var(level, at) => Parts::new(1, [level as u32, at, 0]),
@@ -76,52 +89,55 @@ impl Parts {
             Instruction::Stop => Parts::new(36, [0, 0, 0]),
         }
     }
+}
 
-    // The instruction that has these parts, or none where the code number is none of an instruction.
-    pub(crate) fn instruction(self) -> Option<Instruction>
-        ensures { result ≡ instruction_of self.code self.operands }
-    {
-        let [a, b, c] = self.operands;
+impl TryFrom<Parts> for Instruction {
+    type Error = UnknownCode;
+
+    ghost try_from_gives = { λ parts r. MatchResult r (λ i. instruction_of parts.code parts.operands ≡ Some i) (λ _. instruction_of parts.code parts.operands ≡ None) };
+
+    fn try_from(parts: Parts) -> Result<Self, UnknownCode> {
+        let [a, b, c] = parts.operands;
         let level = a.min(255) as u8;
-        match self.code {
-            0 => Some(Instruction::Lit(unfold_sign(a))),
-            1 => Some(Instruction::Var(level, b)),
-            2 => Some(Instruction::Off(a)),
-            3 => Some(Instruction::Ld),
-            4 => Some(Instruction::St),
-            5 => Some(Instruction::Stk),
-            6 => Some(Instruction::Copy(a)),
-            7 => Some(Instruction::Index(a, b)),
-            8 => Some(Instruction::Add),
-            9 => Some(Instruction::Sub),
-            10 => Some(Instruction::Mul),
-            11 => Some(Instruction::Div),
-            12 => Some(Instruction::Mod),
-            13 => Some(Instruction::Neg),
-            14 => Some(Instruction::Not),
-            15 => Some(Instruction::And),
-            16 => Some(Instruction::Or),
-            17 => Some(Instruction::Lt),
-            18 => Some(Instruction::Le),
-            19 => Some(Instruction::Gt),
-            20 => Some(Instruction::Ge),
-            21 => Some(Instruction::Eq),
-            22 => Some(Instruction::Ne),
-            23 => Some(Instruction::Jmp(a)),
-            24 => Some(Instruction::Jf(a)),
-            25 => Some(Instruction::Geti),
-            26 => Some(Instruction::Getb),
-            27 => Some(Instruction::Puti),
-            28 => Some(Instruction::Putb),
-            29 => Some(Instruction::Nl),
-            30 => Some(Instruction::Zero(level, b, c)),
-            31 => Some(Instruction::Frame(a)),
-            32 => Some(Instruction::Enter(level, b)),
-            33 => Some(Instruction::Leave(level)),
-            34 => Some(Instruction::Dup),
-            35 => Some(Instruction::Pop),
-            36 => Some(Instruction::Stop),
-            _ => None,
+        match parts.code {
+            0 => Ok(Instruction::Lit(unfold_sign(a))),
+            1 => Ok(Instruction::Var(level, b)),
+            2 => Ok(Instruction::Off(a)),
+            3 => Ok(Instruction::Ld),
+            4 => Ok(Instruction::St),
+            5 => Ok(Instruction::Stk),
+            6 => Ok(Instruction::Copy(a)),
+            7 => Ok(Instruction::Index(a, b)),
+            8 => Ok(Instruction::Add),
+            9 => Ok(Instruction::Sub),
+            10 => Ok(Instruction::Mul),
+            11 => Ok(Instruction::Div),
+            12 => Ok(Instruction::Mod),
+            13 => Ok(Instruction::Neg),
+            14 => Ok(Instruction::Not),
+            15 => Ok(Instruction::And),
+            16 => Ok(Instruction::Or),
+            17 => Ok(Instruction::Lt),
+            18 => Ok(Instruction::Le),
+            19 => Ok(Instruction::Gt),
+            20 => Ok(Instruction::Ge),
+            21 => Ok(Instruction::Eq),
+            22 => Ok(Instruction::Ne),
+            23 => Ok(Instruction::Jmp(a)),
+            24 => Ok(Instruction::Jf(a)),
+            25 => Ok(Instruction::Geti),
+            26 => Ok(Instruction::Getb),
+            27 => Ok(Instruction::Puti),
+            28 => Ok(Instruction::Putb),
+            29 => Ok(Instruction::Nl),
+            30 => Ok(Instruction::Zero(level, b, c)),
+            31 => Ok(Instruction::Frame(a)),
+            32 => Ok(Instruction::Enter(level, b)),
+            33 => Ok(Instruction::Leave(level)),
+            34 => Ok(Instruction::Dup),
+            35 => Ok(Instruction::Pop),
+            36 => Ok(Instruction::Stop),
+            _ => Err(UnknownCode),
         }
     }
 }

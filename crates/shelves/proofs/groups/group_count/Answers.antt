@@ -1,17 +1,17 @@
-use Rattle.std.proofs.Common.{◌-◌, sym, refl, arith}
+use Rattle.std.proofs.Common.{◌-◌, ◌<◌, ◌≤◌, refl, ⊎_elim, arith}
 use lib.Count.{count_leading_zeros}
+use Rattle.std.proofs.lemmas.Bool.{cases_lt}
 use Rattle.shelves.specs.Groups.{groups}
 use Rattle.shelves.proofs.Digits.{bits_of, one_group, some_groups}
 use Rattle.shelves.proofs.groups.group_count.Goals as goal
 
-pub returns-then-bits-le7 : goal.returns-then-bits-le7
+pub returns-clause-value : goal.returns-clause-value
 unfolding groups
-returns-then-bits-le7 c =
-    let b = bits_of c.args.n (count_leading_zeros 32 c.args.n) c.ranges.n.fits refl in
-    sym (one_group c.args.n (32 - count_leading_zeros 32 c.args.n) b.0 c.if-bits-le7.true)
-
-pub returns-else-bits-le7 : goal.returns-else-bits-le7
-unfolding groups
-returns-else-bits-le7 c =
-    let b = bits_of c.args.n (count_leading_zeros 32 c.args.n) c.ranges.n.fits refl in
-    sym (some_groups c.args.n (32 - count_leading_zeros 32 c.args.n) b.0 b.1 c.if-bits-le7.false (omega arith))
+returns-clause-value c =
+    let n = c.args.n in
+    let bits = 32 - count_leading_zeros 32 n in
+    let b = bits_of n (count_leading_zeros 32 n) c.ranges.n.fits refl in
+    ⊎_elim
+    (λ (few : bits < 8). omega (arith, one_group n bits b.0 (omega arith)))
+    (λ (more : 8 ≤ bits). omega (arith, some_groups n bits b.0 b.1 more (omega arith)))
+    (cases_lt bits 8)
