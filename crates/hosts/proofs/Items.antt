@@ -1,14 +1,13 @@
 -- Laws of waiting items and of marks as lists.
 use Rattle.std.proofs.Common.{◌≡◌, ℕ, zero, suc, ◌+◌, ◌<◌, ◌≤◌, List, [], ◌∷◌, ◌++◌, length, get_or, take, drop, set, ℤ, pos, Some, Ok, Err, refl, ap, ◌∙◌, append_assoc, le_of_suc-le-suc, not-suc-le-zero, add-one, arith, length-append, length-set, drop-cons}
 use Rattle.std.proofs.lemmas.List.{take_more_set}
-use Rattle.machine.specs.declared.host.Item.TheVariants.{Number}
 use Rattle.machine.specs.declared.host.Event.{Event}
 use Rattle.machine.specs.declared.host.Event.TheVariants.{Int, Bool, Line}
 use Rattle.std.proofs.lemmas.Bool.{le-leb, lt-leb}
 use Rattle.machine.specs.Host.{Host, first, rest, with_marks, said_answer, said}
 use Rattle.hosts.specs.Numbers.{ints, numbered, number_host}
 
-pub first_of : (xs : List ℤ) (n : ℕ) → n < length xs → first (ints (drop n xs)) ≡ Some (Number (get_or xs n (pos 0)))
+pub first_of : (xs : List ℤ) (n : ℕ) → n < length xs → first (ints (drop n xs)) ≡ Some (Ok (get_or xs n (pos 0)))
 first_of xs n h = rw (drop-cons xs n (pos 0) h)
 
 pub rest_of : (xs : List ℤ) (n : ℕ) → n < length xs → rest (ints (drop n xs)) ≡ ints (drop (n + 1) xs)

@@ -1,8 +1,7 @@
 -- The parts of a text between blanks, and the item that each is.
-use Rattle.std.specs.Prelude.{◌≡◌, ℕ, Bool, true, false, cond, not, ◌&&◌, ◌||◌, ◌⊎◌, List, [], ◌∷◌, map, ℤ, Some, None, Option, ◌==◌}
+use Rattle.std.specs.Prelude.{◌≡◌, ℕ, Bool, true, false, cond, not, ◌&&◌, ◌||◌, ◌⊎◌, List, [], ◌∷◌, map, ℤ, Some, None, Ok, Err, Option, ◌==◌}
 use Rattle.tiny.specs.Spelling.{digit, value, ranged, Numeral}
-use Rattle.machine.specs.declared.host.Item.{Item}
-use Rattle.machine.specs.declared.host.Item.TheVariants.{Number, Unreadable}
+use Rattle.machine.specs.Host.{Item}
 
 -- tab, line feed, carriage return, space
 abbrev pub blank : ℕ → Bool
@@ -52,12 +51,12 @@ pub data Spelled : List ℕ → Type 0 where
   signed : {b : ℕ} {bs : List ℕ} → (b ≡ 43) ⊎ (b ≡ 45) → Numeral bs → Spelled (b ∷ bs)
 
 abbrev pub numbered : Option ℤ → Item
-numbered None = Unreadable
-numbered (Some v) = Number v
+numbered None = Err (record {})
+numbered (Some v) = Ok v
 
 -- a literal in the range of an int is its value, and any other part is unreadable
 abbrev pub item_of : List ℕ → Item
-item_of part = cond (literal part) (numbered (ranged (value part))) Unreadable
+item_of part = cond (literal part) (numbered (ranged (value part))) (Err (record {}))
 
 -- the items that wait in a text
 abbrev pub items : List ℕ → List Item

@@ -2,7 +2,7 @@
 ghost use Rattle.std.specs.Prelude.{◌≡◌, ◌≤◌, length, take, drop};
 ghost use Rattle.hosts.specs.Numbers.{numbered, number_host};
 
-use machine::host::{Event, Host, Item, NoRoom};
+use machine::host::{Event, Host, NoRoom, Unreadable};
 
 #[derive(Drop)]
 pub struct NumberHost<'a> {
@@ -49,9 +49,9 @@ fn pair_of(event: Event) -> [i32; 2]
 impl<'a> Host for NumberHost<'a> {
     ghost meaning = { λ s. number_host (drop s.read s.input.now) (take s.used s.output.now) (length s.output.now) };
 
-    fn look(&self) -> Option<Item> {
+    fn look(&self) -> Option<Result<i32, Unreadable>> {
         if self.read < self.input.len() {
-            Some(Item::Number(self.input[self.read]))
+            Some(Ok(self.input[self.read]))
         } else {
             None
         }

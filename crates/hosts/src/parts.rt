@@ -4,7 +4,7 @@ ghost use Rattle.std.specs.List.{prefix_len};
 ghost use Rattle.tiny.specs.Spelling.{digit};
 ghost use Rattle.hosts.specs.Parts.{Spelled, are_digits, blank, item_of, literal, numeral, of_kind};
 
-use machine::host::Item;
+use machine::host::Unreadable;
 use tiny::text::literal;
 
 // Tab, line feed, carriage return and space part the input.
@@ -67,14 +67,11 @@ fn is_literal(part: &[u8]) -> bool
 }
 
 // The item that a part of the input is.
-pub(crate) fn read_item(part: &[u8]) -> Item
+pub(crate) fn read_item(part: &[u8]) -> Result<i32, Unreadable>
     ensures { result ≡ item_of part.now }
 {
     if !is_literal(part) {
-        return Item::Unreadable;
+        return Err(Unreadable);
     }
-    match literal(part) {
-        Some(value) => Item::Number(value),
-        None => Item::Unreadable,
-    }
+    literal(part).ok_or(Unreadable)
 }

@@ -5,7 +5,7 @@ ghost use Rattle.hosts.specs.Texts.{text_host, text_of};
 
 use crate::parts::{read_item, run_end};
 use crate::rendering::{text_length, write_event};
-use machine::host::{Event, Host, Item, NoRoom};
+use machine::host::{Event, Host, NoRoom, Unreadable};
 
 // Lent bytes, in a struct of their own so that they can be written through a host.
 #[derive(Drop)]
@@ -59,7 +59,7 @@ impl<'a> TextHost<'a> {
 impl<'a> Host for TextHost<'a> {
     ghost meaning = { λ s. text_host (drop s.read s.input.now) (take s.used s.page.bytes.now) (length s.page.bytes.now) };
 
-    fn look(&self) -> Option<Item> {
+    fn look(&self) -> Option<Result<i32, Unreadable>> {
         let start = run_end(self.input, self.read, true);
         let end = run_end(self.input, start, false);
         if start == end {

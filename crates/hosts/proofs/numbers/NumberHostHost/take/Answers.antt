@@ -1,5 +1,5 @@
 use Rattle.std.proofs.Common.{List, length, take, sym, ap}
-use Rattle.machine.specs.declared.host.Item.{Item}
+use Rattle.machine.specs.Host.{Item}
 use Rattle.hosts.specs.Numbers.{numbered}
 use Rattle.hosts.proofs.Items.{rest_of, none_of}
 use Rattle.hosts.proofs.numbers.NumberHostHost.take.Goals as goal

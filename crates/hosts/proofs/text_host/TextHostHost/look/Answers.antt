@@ -1,6 +1,5 @@
 use Rattle.std.proofs.Common.{ℕ, List, map, Some, sym, ap, ◌∙◌, arith}
-use Rattle.machine.specs.Host.{first}
-use Rattle.machine.specs.declared.host.Item.{Item}
+use Rattle.machine.specs.Host.{Item, first}
 use Rattle.hosts.specs.Parts.{item_of}
 use Rattle.hosts.proofs.Words.{next_none, next_some}
 use Rattle.hosts.proofs.text_host.TextHostHost.look.Goals as goal

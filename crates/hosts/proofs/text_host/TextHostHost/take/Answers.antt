@@ -1,5 +1,5 @@
 use Rattle.std.proofs.Common.{List, length, take, ap, arith}
-use Rattle.machine.specs.declared.host.Item.{Item}
+use Rattle.machine.specs.Host.{Item}
 use Rattle.hosts.specs.Texts.{as_marks, text_of}
 use Rattle.hosts.proofs.Words.{next_rest}
 use Rattle.hosts.proofs.text_host.TextHostHost.take.Goals as goal
