@@ -1,16 +1,12 @@
 -- The parts of a text between blanks, and the item that each is.
-use Rattle.std.specs.Prelude.{◌≡◌, ℕ, Bool, true, false, cond, not, ◌&&◌, ◌||◌, ◌⊎◌, List, [], ◌∷◌, map, ℤ, Some, None, Ok, Err, Option, ◌==◌}
+use Rattle.std.specs.Prelude.{◌≡◌, ℕ, Bool, false, cond, not, ◌&&◌, ◌||◌, ◌⊎◌, List, [], ◌∷◌, map, ℤ, Some, None, Ok, Err, Option, ◌==◌}
+use Rattle.std.specs.List.{list_all}
 use Rattle.tiny.specs.Spelling.{digit, value, ranged, Numeral}
 use Rattle.machine.specs.Host.{Item}
 
 -- tab, line feed, carriage return, space
 abbrev pub blank : ℕ → Bool
 blank b = b == 9 || (b == 10 || (b == 13 || b == 32))
-
--- the bytes that are blank, or those that are not
-abbrev pub of_kind : Bool → ℕ → Bool
-of_kind true b = blank b
-of_kind false b = not (blank b)
 
 abbrev pub onto : ℕ → List (List ℕ) → List (List ℕ)
 onto b [] = (b ∷ []) ∷ []
@@ -31,8 +27,7 @@ unfoldable pub parts : List ℕ → List (List ℕ)
 parts bs = filled (split bs)
 
 abbrev pub are_digits : List ℕ → Bool
-are_digits [] = true
-are_digits (d ∷ ds) = digit d && are_digits ds
+are_digits = list_all digit
 
 -- 0, or a digit 1 to 9 and any more digits
 abbrev pub numeral : List ℕ → Bool
