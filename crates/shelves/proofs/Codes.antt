@@ -7,15 +7,19 @@ use Rattle.machine.specs.Instructions.{lawful, lawful_all}
 use Rattle.machine.specs.Shelves.{total, fetched, answered, appended}
 
 -- each instruction of a lawful code is lawful, and its number is below the length
-pub fetched_sound : (is : List Instruction) (n most : ℕ) → lawful_all is ≡ true → length is ≤ most → IfSome (fetched is n) (λ i. (lawful i ≡ true) × (n < most))
-fetched_sound [] n most l h = tt
-fetched_sound (i ∷ is) zero most l h = ((and_parts (lawful i) (lawful_all is) l).0, omega arith)
-fetched_sound (i ∷ is) (suc n) zero l h = absurd (omega arith)
-fetched_sound (i ∷ is) (suc n) (suc most) l h = further (fetched is n) (fetched_sound is n most (and_parts (lawful i) (lawful_all is) l).1 (le_of_suc-le-suc h))
+pub fetched_sound : {o : Option Instruction} (is : List Instruction) (n most : ℕ) → o ≡ fetched is n → lawful_all is ≡ true → length is ≤ most
+    → IfSome o (λ i. (lawful i ≡ true) × (n < most))
+fetched_sound is n most e l h = rw e (sound is n most l h)
   where
-    further : (o : Option Instruction) → IfSome o (λ i. (lawful i ≡ true) × (n < most)) → IfSome o (λ i. (lawful i ≡ true) × (suc n < suc most))
-    further None f = tt
-    further (Some j) f = (f.0, omega arith)
+    sound : (is : List Instruction) (n most : ℕ) → lawful_all is ≡ true → length is ≤ most → IfSome (fetched is n) (λ i. (lawful i ≡ true) × (n < most))
+    sound [] n most l h = tt
+    sound (i ∷ is) zero most l h = ((and_parts (lawful i) (lawful_all is) l).0, omega arith)
+    sound (i ∷ is) (suc n) zero l h = absurd (omega arith)
+    sound (i ∷ is) (suc n) (suc most) l h = further n most (fetched is n) (sound is n most (and_parts (lawful i) (lawful_all is) l).1 (le_of_suc-le-suc h))
+      where
+        further : (n most : ℕ) (o : Option Instruction) → IfSome o (λ i. (lawful i ≡ true) × (n < most)) → IfSome o (λ i. (lawful i ≡ true) × (suc n < suc most))
+        further n most None f = tt
+        further n most (Some j) f = (f.0, omega arith)
 
 pub lawful_push : (is : List Instruction) (i : Instruction) → lawful_all is ≡ true → lawful i ≡ true → lawful_all (is ++ (i ∷ [])) ≡ true
 lawful_push [] i h l = and_from (lawful i) true l refl
