@@ -1,43 +1,35 @@
 -- Laws of numbers in groups of seven bits.
-use Rattle.std.proofs.Common.{◌≡◌, ℕ, zero, suc, ◌+◌, ◌-◌, ◌*◌, ◌/◌, ◌%◌, ◌^◌, ◌<◌, ◌≤◌, ltb, List, [], ◌∷◌, ◌++◌, length, drop, Some, refl, ap, ◌∙◌, ⊎_elim, le_trans, lt_of_lt_of_le, arith, drop_at, pow_mono}
+use Rattle.std.proofs.Common.{◌≡◌, ℕ, zero, suc, ◌+◌, ◌-◌, ◌*◌, ◌/◌, ◌%◌, ◌^◌, ◌<◌, ◌≤◌, max, ltb, List, [], ◌∷◌, ◌++◌, length, drop, Some, refl, ap, ◌∙◌, ⊎_elim, le_trans, lt_of_lt_of_le, arith, drop_at, pow_mono}
 use lib.Count.{count_leading_zeros, leading_length}
 use Rattle.std.proofs.lemmas.Bool.{lt-ltb, le-ltb, cases_lt, cond_both}
+use Rattle.std.proofs.lemmas.Nat.{pow-add}
 use Rattle.shelves.specs.Groups.{coded, groups, read_first, limit}
 
--- a number of m significant bits
-below_bits : (n m t : ℕ) → n < 2 ^ m → m ≤ t → n < 2 ^ t
-below_bits n m t h k = lt_of_lt_of_le h (pow_mono k)
+-- a number of m significant bits takes a group for each seven of them, and at least one
+few_bits : (n m : ℕ) → n < 2 ^ m → m ≤ 7 → n < 128
+few_bits n m h k = lt_of_lt_of_le h (pow_mono k)
 
-above_bits : (n m t : ℕ) → 2 ^ m ≤ 2 * n + 1 → t ≤ m → 2 ^ t ≤ 2 * n + 1
-above_bits n m t h k = le_trans (pow_mono k) h
+many_bits : (n m : ℕ) → 2 ^ m ≤ 2 * n + 1 → 8 ≤ m → 128 ≤ n
+many_bits n m l k = let some : 2 ^ 8 ≤ 2 * n + 1 = le_trans (pow_mono k) l in omega arith
 
-pub bits_of : (n lz : ℕ) → n < 2 ^ 32 → lz ≡ count_leading_zeros 32 n → (n < 2 ^ (32 - lz)) × (2 ^ (32 - lz) ≤ 2 * n + 1)
-bits_of n lz h e =
+seven_bits : (m : ℕ) → 8 ≤ m → 2 ^ m ≡ 128 * 2 ^ (m - 7)
+seven_bits m k = let whole : m ≡ 7 + (m - 7) = omega arith in ap (λ (i : ℕ). 2 ^ i) whole ∙ pow-add 2 7 (m - 7)
+
+coded_bits : (k m n : ℕ) → n < 2 ^ m → 2 ^ m ≤ 2 * n + 1 → m ≤ 7 * k + 7 → length (coded k n) ≡ max ((m + 6) / 7) 1
+coded_bits zero m n h l most = omega arith
+coded_bits (suc k) m n h l most = ⊎_elim
+    (λ (few : m < 8). rw (lt-ltb n 128 (few_bits n m h (omega arith))) (omega arith))
+    (λ (many : 8 ≤ m). let part = seven_bits m many in
+    let rest = coded_bits k (m - 7) (n / 128) (omega arith) (omega arith) (omega arith) in
+    rw (le-ltb n 128 (many_bits n m l many)) (omega arith))
+    (cases_lt m 8)
+
+pub groups_bits : (n lz : ℕ) → n < 2 ^ 32 → lz ≡ count_leading_zeros 32 n → length (groups n) ≡ max ((32 - lz + 6) / 7) 1
+unfolding groups
+groups_bits n lz h e =
     let p = leading_length 32 n h in
     let m : p.0 ≡ 32 - lz = omega (arith, p.1) in
-    (rw m at p.2, rw m at p.3)
-
-pub one_group : (n m : ℕ) → n < 2 ^ m → m ≤ 7 → length (coded 4 n) ≡ 1
-one_group n m h k = let t = lt-ltb n 128 (below_bits n m 7 h k) in rw t
-
-pub some_groups : (n m : ℕ) → n < 2 ^ m → 2 ^ m ≤ 2 * n + 1 → 7 < m → m ≤ 32 → length (coded 4 n) ≡ (m + 6) / 7
-some_groups n m h l k top =
-    let a = above_bits n m 8 l k in
-    let first = le-ltb n 128 (omega arith) in
-    ⊎_elim
-    (λ (two : m < 15). let b = below_bits n m 14 h (omega arith) in let t = lt-ltb (n / 128) 128 (omega arith) in rw (first, t) (omega arith))
-    (λ (more : 15 ≤ m). let b = above_bits n m 15 l more in
-    let second = le-ltb (n / 128) 128 (omega arith) in
-    ⊎_elim
-    (λ (three : m < 22). let b = below_bits n m 21 h (omega arith) in let t = lt-ltb (n / 128 / 128) 128 (omega arith) in rw (first, second, t) (omega arith))
-    (λ (more' : 22 ≤ m). let b = above_bits n m 22 l more' in
-    let third = le-ltb (n / 128 / 128) 128 (omega arith) in
-    ⊎_elim
-    (λ (four : m < 29). let b = below_bits n m 28 h (omega arith) in let t = lt-ltb (n / 128 / 128 / 128) 128 (omega arith) in rw (first, second, third, t) (omega arith))
-    (λ (five : 29 ≤ m). let b = above_bits n m 29 l five in let fourth = le-ltb (n / 128 / 128 / 128) 128 (omega arith) in rw (first, second, third, fourth) (omega arith))
-    (cases_lt m 29))
-    (cases_lt m 22))
-    (cases_lt m 15)
+    coded_bits 4 (32 - lz) n (rw m at p.2) (rw m at p.3) (omega arith)
 
 -- reading gives back the number that was coded, and what follows it
 read_coded : (k n : ℕ) (rest : List ℕ) → n < limit (suc k) → read_first (suc k) (coded k n ++ rest) ≡ Some (n, rest)

@@ -147,9 +147,11 @@ pub decoded_lawful : (bytes : List ℕ) → lawful_all (decoded bytes) ≡ true
 unfolding decoded
 decoded_lawful bytes = first_lawful (length bytes) bytes
 
-pub decoded_nil : decoded [] ≡ []
+-- no bytes are no code
+pub no_code : (bytes : List ℕ) → bytes ≡ [] → (decoded bytes ≡ []) × (encoded_all (decoded bytes) ≡ bytes)
 unfolding decoded
-decoded_nil = refl
+no_code [] e = (refl, refl)
+no_code (b ∷ bs) e = absurd (cc)
 
 -- as many instructions as there are bytes are enough
 goes_same : (o : Option (Instruction × List ℕ)) (f g : List ℕ → List Instruction) (n : ℕ) → IfSome o (λ q. (lawful q.0 ≡ true) × (length q.1 < n))
