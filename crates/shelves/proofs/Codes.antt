@@ -1,25 +1,22 @@
 -- Laws of codes as lists: what a fetch answers, what is lawful, and what a put does.
-use Rattle.std.proofs.Common.{◌≡◌, ℕ, zero, suc, ◌+◌, ◌<◌, ◌≤◌, true, List, [], ◌∷◌, ◌++◌, length, IfSome, Some, None, Option, Ok, Err, refl, le_of_suc-le-suc, arith}
+use Rattle.std.proofs.Common.{◌≡◌, ℕ, zero, suc, ◌+◌, ◌<◌, ◌≤◌, true, List, [], ◌∷◌, ◌++◌, length, IfSome, Some, None, Option, Ok, Err, sym, refl, ap, ◌∙◌, arith}
 use Rattle.std.proofs.lemmas.Bool.{le-leb, lt-leb, and_parts, and_from}
+use Rattle.std.proofs.lemmas.Option.{slice_get_within}
 use Rattle.machine.specs.declared.instruction.Instruction.{Instruction}
 use Rattle.machine.specs.declared.shelf.PutRefusal.TheVariants.{Full}
 use Rattle.machine.specs.Instructions.{lawful, lawful_all}
 use Rattle.machine.specs.Shelves.{total, fetched, answered, appended}
 
 -- each instruction of a lawful code is lawful, and its number is below the length
-pub fetched_sound : {o : Option Instruction} (is : List Instruction) (n most : ℕ) → o ≡ fetched is n → lawful_all is ≡ true → length is ≤ most
+lawful_at : (is : List Instruction) (n : ℕ) (i : Instruction) → Some i ≡ fetched is n → lawful_all is ≡ true → lawful i ≡ true
+lawful_at [] n i e l = absurd (cc)
+lawful_at (j ∷ is) zero i e l = let same : i ≡ j = cc in ap lawful same ∙ (and_parts (lawful j) (lawful_all is) l).0
+lawful_at (j ∷ is) (suc n) i e l = lawful_at is n i e (and_parts (lawful j) (lawful_all is) l).1
+
+pub fetched_sound : (o : Option Instruction) (is : List Instruction) (n most : ℕ) → o ≡ fetched is n → lawful_all is ≡ true → length is ≤ most
     → IfSome o (λ i. (lawful i ≡ true) × (n < most))
-fetched_sound is n most e l h = rw e (sound is n most l h)
-  where
-    sound : (is : List Instruction) (n most : ℕ) → lawful_all is ≡ true → length is ≤ most → IfSome (fetched is n) (λ i. (lawful i ≡ true) × (n < most))
-    sound [] n most l h = tt
-    sound (i ∷ is) zero most l h = ((and_parts (lawful i) (lawful_all is) l).0, omega arith)
-    sound (i ∷ is) (suc n) zero l h = absurd (omega arith)
-    sound (i ∷ is) (suc n) (suc most) l h = further n most (fetched is n) (sound is n most (and_parts (lawful i) (lawful_all is) l).1 (le_of_suc-le-suc h))
-      where
-        further : (n most : ℕ) (o : Option Instruction) → IfSome o (λ i. (lawful i ≡ true) × (n < most)) → IfSome o (λ i. (lawful i ≡ true) × (suc n < suc most))
-        further n most None f = tt
-        further n most (Some j) f = (f.0, omega arith)
+fetched_sound None is n most e l h = tt
+fetched_sound (Some i) is n most e l h = let within = slice_get_within is n i (sym e) in (lawful_at is n i e l, omega arith)
 
 pub lawful_push : (is : List Instruction) (i : Instruction) → lawful_all is ≡ true → lawful i ≡ true → lawful_all (is ++ (i ∷ [])) ≡ true
 lawful_push [] i h l = and_from (lawful i) true l refl

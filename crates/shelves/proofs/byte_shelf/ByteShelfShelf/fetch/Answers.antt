@@ -14,4 +14,4 @@ returns c =
     let code = decoded (items s.bytes) in
     let got = nth_from_yields_List c.nth.result c.nth.new.self c.args.n c.nth.ensures.ran (YieldsList-from_first (λ i. i) (λ s. decoded s.bytes.now) code (ap decoded c.as_slice.ensures)) in
     let answer : c.nth.result ≡ fetched code c.args.n = sym (option_map_id c.nth.result) ∙ got in
-    record { answer = answer; sound = fetched_sound code c.args.n 1048576 answer (decoded_lawful (items s.bytes)) (omega (arith, bytes_few (items s.bytes) s.sound)) }
+    record { answer = answer; sound = fetched_sound c.nth.result code c.args.n 1048576 answer (decoded_lawful (items s.bytes)) (omega (arith, bytes_few (items s.bytes) s.sound)) }
