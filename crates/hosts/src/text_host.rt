@@ -4,8 +4,7 @@ ghost use Rattle.tables.specs.Items.{items, capacity};
 ghost use Rattle.hosts.specs.Texts.{text_host};
 
 use crate::parts::{first_part, read_item};
-use crate::rendering::text_of;
-use itoa::Buffer;
+use crate::rendering::{LONGEST, add_event};
 use machine::host::{Event, Host, NoRoom, Unreadable};
 use tables::table::Table;
 
@@ -50,12 +49,13 @@ impl<'a> Host for TextHost<'a> {
     }
 
     fn say(&mut self, event: Event) -> Result<(), NoRoom> {
-        let mut digits = Buffer::new();
-        let text = text_of(event, &mut digits);
+        let mut cells = [0; LONGEST];
+        let mut text = Table::over(&mut cells);
+        add_event(&mut text, event);
         if self.output.room() < text.len() {
             return Err(NoRoom);
         }
-        self.output.extend_from_slice(text);
+        self.output.extend_from_slice(text.as_slice());
         Ok(())
     }
 }
