@@ -1,17 +1,12 @@
 -- The parts of a text between blanks, and the item that each is.
-use Rattle.std.specs.Prelude.{◌≡◌, ℕ, Bool, true, false, cond, not, ◌&&◌, ◌||◌, ◌⊎◌, List, [], ◌∷◌, map, ℤ, Some, None, Option, ◌==◌}
+use Rattle.std.specs.Prelude.{◌≡◌, ℕ, Bool, false, cond, not, ◌&&◌, ◌||◌, ◌⊎◌, List, [], ◌∷◌, map, ℤ, Some, None, Ok, Err, Option, ◌==◌}
+use Rattle.std.specs.List.{list_all}
 use Rattle.tiny.specs.Spelling.{digit, value, ranged, Numeral}
-use Rattle.machine.specs.declared.host.Item.{Item}
-use Rattle.machine.specs.declared.host.Item.TheVariants.{Number, Unreadable}
+use Rattle.machine.specs.Host.{Item}
 
 -- tab, line feed, carriage return, space
 abbrev pub blank : ℕ → Bool
 blank b = b == 9 || (b == 10 || (b == 13 || b == 32))
-
--- the bytes that are blank, or those that are not
-abbrev pub of_kind : Bool → ℕ → Bool
-of_kind true b = blank b
-of_kind false b = not (blank b)
 
 abbrev pub onto : ℕ → List (List ℕ) → List (List ℕ)
 onto b [] = (b ∷ []) ∷ []
@@ -32,8 +27,7 @@ unfoldable pub parts : List ℕ → List (List ℕ)
 parts bs = filled (split bs)
 
 abbrev pub are_digits : List ℕ → Bool
-are_digits [] = true
-are_digits (d ∷ ds) = digit d && are_digits ds
+are_digits = list_all digit
 
 -- 0, or a digit 1 to 9 and any more digits
 abbrev pub numeral : List ℕ → Bool
@@ -52,12 +46,12 @@ pub data Spelled : List ℕ → Type 0 where
   signed : {b : ℕ} {bs : List ℕ} → (b ≡ 43) ⊎ (b ≡ 45) → Numeral bs → Spelled (b ∷ bs)
 
 abbrev pub numbered : Option ℤ → Item
-numbered None = Unreadable
-numbered (Some v) = Number v
+numbered None = Err (record {})
+numbered (Some v) = Ok v
 
 -- a literal in the range of an int is its value, and any other part is unreadable
 abbrev pub item_of : List ℕ → Item
-item_of part = cond (literal part) (numbered (ranged (value part))) Unreadable
+item_of part = cond (literal part) (numbered (ranged (value part))) (Err (record {}))
 
 -- the items that wait in a text
 abbrev pub items : List ℕ → List Item

@@ -1,37 +1,34 @@
 // A host of numbers: reads ints from one lent slice and writes two numbers for each event into another.
-ghost use Rattle.std.specs.Prelude.{◌≡◌, ◌≤◌, length, take, drop};
+ghost use Rattle.std.specs.Prelude.{◌≡◌};
+ghost use Rattle.tables.specs.Items.{items, capacity};
 ghost use Rattle.hosts.specs.Numbers.{numbered, number_host};
 
-use machine::host::{Event, Host, Item, NoRoom};
+use machine::host::{Event, Host, NoRoom, Unreadable};
+use tables::table::Table;
 
+// The input is what waits to be read.
 #[derive(Drop)]
 pub struct NumberHost<'a> {
     input: &'a [i32],
-    read: usize,
-    output: &'a mut [i32],
-    used: usize,
-    ghost input_within: { read ≤ length input.now },
-    ghost output_within: { used ≤ length output.now },
+    output: Table<'a, i32>,
 }
 
 impl<'a> NumberHost<'a> {
     // A host whose items are the input and that has written nothing.
     pub fn new(input: &'a [i32], output: &'a mut [i32]) -> Self
-        ensures { (result.read ≡ 0) × (result.used ≡ 0) × (result.input.now ≡ input.now) × (result.output.now ≡ output.old) }
+        ensures { (result.output.used ≡ 0) × (result.input.now ≡ input.now) × (result.output.cells.now ≡ output.old) }
     {
         NumberHost {
             input,
-            read: 0,
-            output,
-            used: 0,
+            output: Table::over(output),
         }
     }
 
     // What was written.
     pub fn output(&self) -> &[i32]
-        ensures { result.now ≡ take self.now.used self.now.output.now }
+        ensures { result.now ≡ items self.now.output }
     {
-        &self.output[0..self.used]
+        self.output.as_slice()
     }
 }
 
@@ -41,36 +38,30 @@ fn pair_of(event: Event) -> [i32; 2]
 {
     match event {
         Event::Int(value) => [0, value],
-        Event::Bool(value) => [1, if value { 1 } else { 0 }],
+        Event::Bool(value) => [1, i32::from(value)],
         Event::Line => [2, 0],
     }
 }
 
 impl<'a> Host for NumberHost<'a> {
-    ghost meaning = { λ s. number_host (drop s.read s.input.now) (take s.used s.output.now) (length s.output.now) };
+    ghost meaning = { λ s. number_host s.input.now (items s.output) (capacity s.output) };
 
-    fn look(&self) -> Option<Item> {
-        if self.read < self.input.len() {
-            Some(Item::Number(self.input[self.read]))
-        } else {
-            None
-        }
+    fn look(&self) -> Option<Result<i32, Unreadable>> {
+        self.input.first().copied().map(Ok)
     }
 
     fn take(&mut self) {
-        if self.read < self.input.len() {
-            self.read += 1;
+        if let [_, rest @ ..] = self.input {
+            self.input = rest;
         }
     }
 
     fn say(&mut self, event: Event) -> Result<(), NoRoom> {
-        if self.output.len() - self.used < 2 {
+        let pair = pair_of(event);
+        if self.output.room() < pair.len() {
             return Err(NoRoom);
         }
-        let [tag, value] = pair_of(event);
-        self.output[self.used] = tag;
-        self.output[self.used + 1] = value;
-        self.used += 2;
+        self.output.extend_from_slice(&pair);
         Ok(())
     }
 }

@@ -1,10 +1,13 @@
 -- What a host means: items that wait to be read, marks written so far, room for marks, and how an event is rendered.
 use Rattle.std.specs.Prelude.{ℕ, zero, suc, Bool, cond, List, [], ◌∷◌, ◌++◌, length, ℤ, pos, negsuc, Some, None, Ok, Err, Option, Result, nat_le}
 use Rattle.machine.specs.declared.host.NoRoom.{NoRoom}
+use Rattle.machine.specs.declared.host.Unreadable.{Unreadable}
 use Rattle.machine.specs.Ints.{Answer, gives, faults}
-use Rattle.machine.specs.declared.host.Item.{Item}
-use Rattle.machine.specs.declared.host.Item.TheVariants.{Number as number, Unreadable as unreadable}
 use Rattle.machine.specs.declared.host.Event.{Event}
+
+-- what waits to be read: a number, or an item that is none
+abbrev pub Item : Type 0
+Item = Result ℤ Unreadable
 
 pub record Host : Type 0 where
   pub items : List Item
@@ -44,8 +47,8 @@ said e h = cond (fits e h) (with_marks (h.marks ++ h.renders e) h) h
 
 -- an item that is not of the kind that is asked for is fault 25
 abbrev pub as_int : Item → Answer
-as_int (number z) = gives z
-as_int unreadable = faults 25
+as_int (Ok z) = gives z
+as_int (Err e) = faults 25
 
 abbrev pub bit : ℤ → Answer
 bit (pos zero) = gives (pos 0)
@@ -54,5 +57,5 @@ bit (pos (suc (suc n))) = faults 25
 bit (negsuc n) = faults 25
 
 abbrev pub as_bool : Item → Answer
-as_bool (number z) = bit z
-as_bool unreadable = faults 25
+as_bool (Ok z) = bit z
+as_bool (Err e) = faults 25

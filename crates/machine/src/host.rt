@@ -2,12 +2,9 @@
 ghost use Rattle.std.specs.Prelude.{◌≡◌, ◌≤◌, length};
 ghost use Rattle.machine.specs.Host.{Host as Meaning, first, taken, said_answer, said};
 
-// An item that waits to be read.
+// The item that waits is no number.
 #[derive(Clone, Copy, PartialEq, Eq, Debug)]
-pub enum Item {
-    Number(i32),
-    Unreadable,
-}
+pub struct Unreadable;
 
 // One thing to write.
 #[derive(Clone, Copy, PartialEq, Eq, Debug)]
@@ -26,8 +23,8 @@ pub struct NoRoom;
 pub trait Host {
     ghost meaning: { Self → Meaning };
 
-    // The first waiting item, or none.
-    fn look(&self) -> Option<Item>
+    // The first waiting item, if any: a number, or an item that is none.
+    fn look(&self) -> Option<Result<i32, Unreadable>>
         ensures { result ≡ first (meaning self.now).items };
 
     // Removes the first waiting item, if any.

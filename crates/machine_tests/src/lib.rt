@@ -43,7 +43,7 @@ mod tests {
     use hosts::numbers::NumberHost;
     use hosts::text_host::TextHost;
     use machine::fault::Fault;
-    use machine::host::{Event, Host, Item, NoRoom};
+    use machine::host::{Event, Host, NoRoom, Unreadable};
     use machine::shelf::{PutRefusal, Shelf};
     use running::advance::{Standing, advance};
     use running::registers::Registers;
@@ -57,7 +57,7 @@ mod tests {
         Ok(())
     }
 
-    fn next_item(host: &mut TextHost) -> Option<Item> {
+    fn next_item(host: &mut TextHost) -> Option<Result<i32, Unreadable>> {
         let item = host.look();
         host.take();
         item
@@ -127,12 +127,12 @@ mod tests {
     fn text_is_read_in_parts(rt: HostRuntime) {
         let mut output = [0; 0];
         let mut host = TextHost::new(b"12  -7\r\n+0 007 -2147483649 -2147483648", &mut output);
-        assert_eq!(rt; next_item(&mut host), Some(Item::Number(12)));
-        assert_eq!(rt; next_item(&mut host), Some(Item::Number(-7)));
-        assert_eq!(rt; next_item(&mut host), Some(Item::Number(0)));
-        assert_eq!(rt; next_item(&mut host), Some(Item::Unreadable));
-        assert_eq!(rt; next_item(&mut host), Some(Item::Unreadable));
-        assert_eq!(rt; next_item(&mut host), Some(Item::Number(-2147483648)));
+        assert_eq!(rt; next_item(&mut host), Some(Ok(12)));
+        assert_eq!(rt; next_item(&mut host), Some(Ok(-7)));
+        assert_eq!(rt; next_item(&mut host), Some(Ok(0)));
+        assert_eq!(rt; next_item(&mut host), Some(Err(Unreadable)));
+        assert_eq!(rt; next_item(&mut host), Some(Err(Unreadable)));
+        assert_eq!(rt; next_item(&mut host), Some(Ok(-2147483648)));
         assert_eq!(rt; next_item(&mut host), None);
     }
 

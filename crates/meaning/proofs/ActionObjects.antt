@@ -5,8 +5,7 @@ use Rattle.meaning.specs.Rule.{Block, Place, Value, Argument, Formal, Action, Ac
 use Rattle.meaning.specs.Rule as Rule
 use Rattle.machine.specs.Ints.{Answer, gives, is_zero}
 use Rattle.machine.specs.Ints as Ints
-use Rattle.machine.specs.Host.{Host}
-use Rattle.machine.specs.declared.host.Item.{Item}
+use Rattle.machine.specs.Host.{Host, Item}
 use Rattle.machine.specs.declared.host.Event.{Event}
 use Rattle.machine.specs.declared.host.Event.TheVariants.{Int as wrote_int, Bool as wrote_bool, Line as wrote_line}
 use Rattle.meaning.specs.Evaluation.{World, own_size, formals_size, frame_size, action_extent, actions_extent, block_extent, zeroed, as_int, as_bool}

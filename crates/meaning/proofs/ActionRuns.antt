@@ -5,7 +5,7 @@ use Rattle.machine.specs.declared.instruction.Instruction.TheVariants.{Copy, Jmp
 use Rattle.meaning.specs.Rule.{Place, Value, Argument, Formal, Action, Actions, Block}
 use Rattle.meaning.specs.Rule as Rule
 use Rattle.machine.specs.Ints.{Answer, is_zero}
-use Rattle.machine.specs.declared.host.Item.{Item}
+use Rattle.machine.specs.Host.{Item}
 use Rattle.machine.specs.declared.host.Event.{Event}
 use Rattle.machine.specs.declared.host.Event.TheVariants.{Int as wrote_int, Bool as wrote_bool, Line as wrote_line}
 use Rattle.meaning.specs.Evaluation.{World, Outcome, done, cut, fault, ◌>>=◌, ◌>>◌, charge, return, save, move, hear, said, as_int, as_bool, Env, own_cells, act, act_all, run_block, found, called, ranked, own_size, actions_extent}

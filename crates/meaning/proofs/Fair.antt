@@ -1,10 +1,8 @@
 -- The faults of operators and of items are among 21 to 27.
-use Rattle.std.proofs.Common.{zero, suc, ◌^◌, ◌≤◌, Bool, true, false, cond, ltb, ℤ, pos, negsuc, ◌+ℤ◌, ◌-ℤ◌, ◌*ℤ◌, neg_ℤ, arith}
+use Rattle.std.proofs.Common.{zero, suc, ◌^◌, ◌≤◌, Bool, true, false, cond, ltb, ℤ, pos, negsuc, ◌+ℤ◌, ◌-ℤ◌, ◌*ℤ◌, neg_ℤ, Ok, Err, arith}
 use lib.Signed.{quot_z, rem_z, mag}
 use Rattle.machine.specs.Ints.{Answer, gives, faults, unary_of, binary_of, is_zero, fit, unless_zero}
-use Rattle.machine.specs.Host.{as_int, as_bool, bit}
-use Rattle.machine.specs.declared.host.Item.{Item}
-use Rattle.machine.specs.declared.host.Item.TheVariants.{Number as number, Unreadable as unreadable}
+use Rattle.machine.specs.Host.{Item, as_int, as_bool, bit}
 use Rattle.meaning.specs.Rule.{Unary, Binary}
 use Rattle.meaning.specs.Rule as Rule
 
@@ -52,9 +50,9 @@ bit_fair (pos (suc (suc n))) = omega arith
 bit_fair (negsuc n) = omega arith
 
 pub int_fair : (i : Item) → Fair (as_int i)
-int_fair (number z) = tt
-int_fair unreadable = omega arith
+int_fair (Ok z) = tt
+int_fair (Err e) = omega arith
 
 pub bool_fair : (i : Item) → Fair (as_bool i)
-bool_fair (number z) = bit_fair z
-bool_fair unreadable = omega arith
+bool_fair (Ok z) = bit_fair z
+bool_fair (Err e) = omega arith

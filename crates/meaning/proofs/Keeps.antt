@@ -5,8 +5,7 @@ use Rattle.machine.specs.declared.instruction.Instruction.{Instruction}
 use Rattle.machine.specs.declared.instruction.Instruction.TheVariants.{Lit, Var, Off, Ld, St, Stk, Copy, Index, Add, Sub, Mul, Div, Mod, Neg, Not, And, Or, Lt, Le, Gt, Ge, Eq, Ne, Jmp, Jf, Geti, Getb, Puti, Putb, Nl, Zero, Frame, Enter, Leave, Dup, Pop, Stop}
 use Rattle.meaning.specs.Rule as Rule
 use Rattle.machine.specs.Ints.{Answer, gives, faults, unary_of, binary_of, is_zero}
-use Rattle.machine.specs.Host.{Host}
-use Rattle.machine.specs.declared.host.Item.{Item}
+use Rattle.machine.specs.Host.{Host, Item}
 use Rattle.machine.specs.declared.host.Event.{Event}
 use Rattle.machine.specs.declared.host.Event.TheVariants.{Int as wrote_int, Bool as wrote_bool, Line as wrote_line}
 use Rattle.meaning.specs.Evaluation.{zeroed, moved, as_int, as_bool, in_range}

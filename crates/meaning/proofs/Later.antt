@@ -1,8 +1,7 @@
 -- Every part of the meaning, under two limits.
 use Rattle.std.proofs.Common.{◌≡◌, ℕ, zero, suc, ◌+◌, ◌*◌, ◌<◌, ◌≤◌, Bool, true, false, not, leb, List, [], ◌∷◌, ◌++◌, length, take, replicate, ℤ, pos, refl, arith}
 use Rattle.machine.specs.Ints.{Answer, gives, faults, unary_of, binary_of, is_zero, in_range, nat}
-use Rattle.machine.specs.Host.{as_int, as_bool}
-use Rattle.machine.specs.declared.host.Item.{Item}
+use Rattle.machine.specs.Host.{Item, as_int, as_bool}
 use Rattle.machine.specs.declared.host.Event.{Event}
 use Rattle.machine.specs.declared.host.Event.TheVariants.{Int as wrote_int, Bool as wrote_bool, Line as wrote_line}
 use Rattle.meaning.specs.Rule.{Place, Value, Argument, Formal, Action, Actions, Declarations, Block}

@@ -3,8 +3,7 @@ use Rattle.std.proofs.Common.{◌≡◌, ℕ, zero, suc, ◌+◌, ◌<◌, ◌�
 use Rattle.machine.specs.declared.instruction.Instruction.{Instruction}
 use Rattle.machine.specs.declared.instruction.Instruction.TheVariants.{Copy, Jmp, Jf, Zero}
 use Rattle.machine.specs.Ints.{Answer, gives, faults, is_zero}
-use Rattle.machine.specs.Host.{Host}
-use Rattle.machine.specs.declared.host.Item.{Item}
+use Rattle.machine.specs.Host.{Host, Item}
 use Rattle.machine.specs.declared.host.Event.{Event}
 use Rattle.meaning.specs.Evaluation.{World, Outcome, done, cut, fault, ◌>>=◌, ◌>>◌, charge, return, save, move, clear, hear, taken, said, own_cells, zeroed, moved}
 use Rattle.machine.specs.Machine.{Machine, Effect, goes, fails, fetched, after, effect, within, on, on_cells, on_host, jump, one, get, say, heard, settled}

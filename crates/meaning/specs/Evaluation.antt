@@ -4,8 +4,7 @@ use Rattle.std.specs.Prelude.{ℕ, zero, suc, ◌+◌, ◌*◌, true, false, not
 use Rattle.meaning.specs.Rule.{Place, Value, Argument, Formal, Action, Actions, Declarations, Block}
 use Rattle.meaning.specs.Rule as Rule
 use Rattle.machine.specs.Ints.{Answer, gives, faults, unary_of, binary_of, is_zero}
-use Rattle.machine.specs.Host.{Host}
-use Rattle.machine.specs.declared.host.Item.{Item}
+use Rattle.machine.specs.Host.{Host, Item}
 use Rattle.machine.specs.declared.host.Event.{Event}
 use Rattle.machine.specs.declared.host.Event.TheVariants.{Int as wrote_int, Bool as wrote_bool, Line as wrote_line}
 pub use Rattle.meaning.specs.Sizes.{formal_size, formals_size, own_size, block_extent, actions_extent, action_extent, frame_size}

@@ -2,8 +2,7 @@
 use Rattle.std.specs.Prelude.{ℕ, zero, suc, ◌+◌, ◌*◌, true, false, List, [], ◌∷◌, ◌++◌, length, take, drop, ℤ, pos, nat_le, slice_index_or, slice_set}
 use Rattle.meaning.specs.Rule.{Formal, Block}
 use Rattle.machine.specs.Ints.{Answer, gives, faults, in_range, nat}
-use Rattle.machine.specs.Host.{Host}
-use Rattle.machine.specs.declared.host.Item.{Item}
+use Rattle.machine.specs.Host.{Host, Item}
 use Rattle.machine.specs.declared.host.Event.{Event}
 
 abbrev pub Object : Type 0

@@ -5,11 +5,10 @@ use Rattle.running.specs.declared.operands.Operands.{Operands}
 use Rattle.running.specs.declared.registers.Registers.{Registers}
 use Rattle.running.specs.declared.flow.Flow.{Flow}
 use Rattle.running.specs.declared.flow.Flow.TheVariants.{Next, To, Stop}
-use Rattle.machine.specs.declared.host.Item.{Item}
 use Rattle.machine.specs.declared.host.Event.{Event}
 use Rattle.machine.specs.Ints.{Answer, faults}
 use Rattle.machine.specs.Faults.{fault_number, Failed}
-use Rattle.machine.specs.Host.{Host, fits, said}
+use Rattle.machine.specs.Host.{Host, Item, fits, said}
 use Rattle.running.specs.Stacks.{held}
 use Rattle.machine.specs.Machine.{Machine, Effect, goes, stops, fails}
 

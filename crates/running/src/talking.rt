@@ -10,7 +10,7 @@ use crate::flow::Flow;
 use crate::memory::write_cell;
 use crate::registers::Registers;
 use machine::fault::Fault;
-use machine::host::{Event, Host, Item};
+use machine::host::{Event, Host, Unreadable};
 
 // The int that waits, if an int does.
 fn waiting_int<H: Host>(host: &H) -> Result<i32, Fault>
@@ -18,8 +18,8 @@ fn waiting_int<H: Host>(host: &H) -> Result<i32, Fault>
 {
     match host.look() {
         None => Err(Fault::NoItem),
-        Some(Item::Unreadable) => Err(Fault::Unreadable),
-        Some(Item::Number(value)) => Ok(value),
+        Some(Err(Unreadable)) => Err(Fault::Unreadable),
+        Some(Ok(value)) => Ok(value),
     }
 }
 
@@ -29,8 +29,8 @@ fn waiting_bool<H: Host>(host: &H) -> Result<i32, Fault>
 {
     match host.look() {
         None => Err(Fault::NoItem),
-        Some(Item::Unreadable) => Err(Fault::Unreadable),
-        Some(Item::Number(value)) => {
+        Some(Err(Unreadable)) => Err(Fault::Unreadable),
+        Some(Ok(value)) => {
             if 0 <= value && value <= 1 {
                 Ok(value)
             } else {

@@ -1,27 +1,22 @@
 -- Laws of codes as lists: what a fetch answers, what is lawful, and what a put does.
-use Rattle.std.proofs.Common.{◌≡◌, ℕ, zero, suc, ◌+◌, ◌<◌, ◌≤◌, true, List, [], ◌∷◌, ◌++◌, length, get_or, take, IfSome, Some, None, Ok, Err, refl, ◌∙◌, le_of_suc-le-suc, not-suc-le-zero, arith, length-take}
+use Rattle.std.proofs.Common.{◌≡◌, ℕ, zero, suc, ◌+◌, ◌<◌, ◌≤◌, true, List, [], ◌∷◌, ◌++◌, length, IfSome, Some, None, Option, Ok, Err, sym, refl, ap, ◌∙◌, arith}
 use Rattle.std.proofs.lemmas.Bool.{le-leb, lt-leb, and_parts, and_from}
+use Rattle.std.proofs.lemmas.Option.{slice_get_within}
 use Rattle.machine.specs.declared.instruction.Instruction.{Instruction}
 use Rattle.machine.specs.declared.shelf.PutRefusal.TheVariants.{Full}
 use Rattle.machine.specs.Instructions.{lawful, lawful_all}
 use Rattle.machine.specs.Shelves.{total, fetched, answered, appended}
 
-pub fetched_take : (xs : List Instruction) (u n : ℕ) (d : Instruction) → n < u → u ≤ length xs → fetched (take u xs) n ≡ Some (get_or xs n d)
-fetched_take xs zero n d h k = absurd (not-suc-le-zero h)
-fetched_take [] (suc u) n d h k = absurd (not-suc-le-zero k)
-fetched_take (x ∷ xs) (suc u) zero d h k = refl
-fetched_take (x ∷ xs) (suc u) (suc n) d h k = fetched_take xs u n d (le_of_suc-le-suc h) (le_of_suc-le-suc k)
+-- each instruction of a lawful code is lawful, and its number is below the length
+lawful_at : (is : List Instruction) (n : ℕ) (i : Instruction) → Some i ≡ fetched is n → lawful_all is ≡ true → lawful i ≡ true
+lawful_at [] n i e l = absurd (cc)
+lawful_at (j ∷ is) zero i e l = let same : i ≡ j = cc in ap lawful same ∙ (and_parts (lawful j) (lawful_all is) l).0
+lawful_at (j ∷ is) (suc n) i e l = lawful_at is n i e (and_parts (lawful j) (lawful_all is) l).1
 
-pub fetched_past : (xs : List Instruction) (n : ℕ) → length xs ≤ n → fetched xs n ≡ None
-fetched_past [] n h = refl
-fetched_past (x ∷ xs) zero h = absurd (not-suc-le-zero h)
-fetched_past (x ∷ xs) (suc n) h = fetched_past xs n (le_of_suc-le-suc h)
-
--- each instruction of a lawful code is lawful, and what holds anyway holds with it
-pub fetched_sound : (Q : Type 0) (is : List Instruction) (n : ℕ) → lawful_all is ≡ true → Q → IfSome (fetched is n) (λ i. (lawful i ≡ true) × Q)
-fetched_sound Q [] n l q = tt
-fetched_sound Q (i ∷ is) zero l q = ((and_parts (lawful i) (lawful_all is) l).0, q)
-fetched_sound Q (i ∷ is) (suc n) l q = fetched_sound Q is n (and_parts (lawful i) (lawful_all is) l).1 q
+pub fetched_sound : (o : Option Instruction) (is : List Instruction) (n most : ℕ) → o ≡ fetched is n → lawful_all is ≡ true → length is ≤ most
+    → IfSome o (λ i. (lawful i ≡ true) × (n < most))
+fetched_sound None is n most e l h = tt
+fetched_sound (Some i) is n most e l h = let within = slice_get_within is n i (sym e) in (lawful_at is n i e l, omega arith)
 
 pub lawful_push : (is : List Instruction) (i : Instruction) → lawful_all is ≡ true → lawful i ≡ true → lawful_all (is ++ (i ∷ [])) ≡ true
 lawful_push [] i h l = and_from (lawful i) true l refl
@@ -38,10 +33,7 @@ pub put_fits : (cost : Instruction → ℕ) (cap : ℕ) (code : List Instruction
     → (answered cost cap code i ≡ Ok tt) × (appended cost cap code i ≡ code ++ (i ∷ []))
 put_fits cost cap code i l h = let f = le-leb (total cost code + cost i) cap h in (simp (l, f), simp (l, f))
 
--- the cost of the first u records, where each instruction costs 1
+-- the cost of records, where each instruction costs 1
 pub total_ones : (xs : List Instruction) → total (λ _. 1) xs ≡ length xs
 total_ones [] = refl
 total_ones (x ∷ xs) = let h = total_ones xs in omega arith
-
-pub total_taken : (xs : List Instruction) (u : ℕ) → u ≤ length xs → total (λ _. 1) (take u xs) ≡ u
-total_taken xs u h = total_ones (take u xs) ∙ simp length-take (omega arith)

@@ -3,4 +3,3 @@ pub mod Codes
 pub mod Digits
 pub mod Views
 pub mod Laws
-pub mod Written

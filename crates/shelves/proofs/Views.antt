@@ -1,5 +1,5 @@
 -- The view of an instruction determines it.
-use Rattle.std.proofs.Common.{◌≡◌, ℕ, ◌+◌, ◌-◌, ◌*◌, ◌/◌, ◌%◌, ◌<◌, ◌≤◌, min, true, leb, List, [], ◌∷◌, map, length, take, ℤ, pos, negsuc, Some, refl, ap, ◌∙◌, arith}
+use Rattle.std.proofs.Common.{◌≡◌, ℕ, ◌+◌, ◌*◌, ◌/◌, ◌%◌, ◌<◌, ◌≤◌, min, true, leb, List, [], ◌∷◌, map, length, take, ℤ, pos, negsuc, Some, refl, ap, ◌∙◌, arith}
 use native.Mathlib.Nat.{min-eq_left}
 use Rattle.std.specs.List.{AllByRecursion as All}
 use Rattle.std.proofs.lemmas.Bool.{leb-true, and_parts, eq-eqb, ne_eqb}
@@ -59,8 +59,6 @@ taken_padded (a ∷ b ∷ c ∷ d ∷ ns) h = absurd (omega arith)
 operands_taken : (i : Instruction) → take (arity (view i).0) (padded (raws i)) ≡ raws i
 operands_taken i = ap (λ (n : ℕ). take n (padded (raws i))) (seen i).0 ∙ taken_padded (raws i) (operands_few i)
 
--- the part of the array of operands that is written
-pub operands_sliced : (i : Instruction) (parts : Parts) (n : ℕ) → parts ≡ parts_of i → n ≡ arity parts.code → take (n - 0) parts.operands ≡ raws i
-operands_sliced i parts n e k =
-    let count : n - 0 ≡ arity (view i).0 = omega (arith, k ∙ ap (λ (q : Parts). arity q.code) e) in
-    ap (λ (m : ℕ). take m parts.operands) count ∙ ap (λ (q : Parts). take (arity (view i).0) q.operands) e ∙ operands_taken i
+-- the operands that are written
+pub operands_present : (i : Instruction) (parts : Parts) → parts ≡ parts_of i → take (arity parts.code) parts.operands ≡ raws i
+operands_present i parts e = ap (λ (q : Parts). take (arity q.code) q.operands) e ∙ operands_taken i

@@ -1,4 +1,5 @@
 -- Numbers in groups of seven bits.
+use Rattle.std.specs.Borrow.{Bor}
 use Rattle.std.specs.Prelude.{ℕ, zero, suc, ◌+◌, ◌-◌, ◌*◌, ◌/◌, ◌%◌, cond, List, [], ◌∷◌, ℤ, pos, negsuc, Some, None, Option, ◌==◌, nat_lt}
 
 -- a number in at most k + 1 groups of seven bits, low group first, the top bit set on all but the last
@@ -11,15 +12,20 @@ unfoldable pub groups : ℕ → List ℕ
 groups n = coded 4 n
 
 -- a low group below the number of the higher ones
-abbrev pub raised : ℕ → Option (ℕ × ℕ) → Option (ℕ × ℕ)
+abbrev pub raised : ℕ → Option (ℕ × List ℕ) → Option (ℕ × List ℕ)
 raised b None = None
 raised b (Some q) = Some (b - 128 + 128 * q.0, q.1)
 
--- the number whose groups, at most k, stand first in the bytes from place p on, and the place after it
-abbrev pub read_at : ℕ → List ℕ → ℕ → Option (ℕ × ℕ)
-read_at zero xs p = None
-read_at (suc k) [] p = None
-read_at (suc k) (b ∷ bs) p = cond (nat_lt b 128) (Some (b, p + 1)) (raised b (read_at k bs (p + 1)))
+-- the number whose groups, at most k, stand first in the bytes, and the bytes after it
+abbrev pub read_first : ℕ → List ℕ → Option (ℕ × List ℕ)
+read_first zero xs = None
+read_first (suc k) [] = None
+read_first (suc k) (b ∷ bs) = cond (nat_lt b 128) (Some (b, bs)) (raised b (read_first k bs))
+
+-- what a function that reads from the front of bytes answers: a value, and the bytes after it
+abbrev pub answer_of : {X : Type 0} → Option (X × Bor (List ℕ)) → Option (X × List ℕ)
+answer_of None = None
+answer_of (Some q) = Some (q.0, q.1.now)
 
 -- what k groups hold
 abbrev pub limit : ℕ → ℕ

@@ -1,49 +1,52 @@
 // Numbers in groups of seven bits.
-ghost use Rattle.std.specs.Prelude.{◌≡◌, ◌+◌, ◌<◌, ◌≤◌, ◌++◌, length, take, drop, IfSome, Some};
-ghost use Rattle.shelves.specs.Groups.{groups, limit, read_at, unzigzag, zigzag};
+ghost use Rattle.std.specs.Prelude.{◌≡◌, ◌<◌, ◌≤◌, ◌++◌, List, ℕ, length, drop, IfSome, Some};
+ghost use Rattle.tables.specs.Items.{items, HasRoom, Extended};
+ghost use Rattle.shelves.specs.Groups.{answer_of, groups, limit, read_first, unzigzag, zigzag};
 
-// A number's groups of seven bits, low group first, the top bit set on all but the last.
-// How many there are follows from its significant bits, and 0 takes one.
+use tables::table::Table;
+
+// How many groups a number takes. It follows from its significant bits, and 0 takes one.
 pub(crate) fn group_count(n: u32) -> usize
-    ensures { result ≡ length (groups n) }
+    ensures value { result ≡ length (groups n) }
+    ensures most { result ≤ 5 }
 {
-    let bits = (32 - n.leading_zeros()) as usize;
-    if bits <= 7 { 1 } else { (bits + 6) / 7 }
+    let bits = 32 - n.leading_zeros();
+    bits.div_ceil(7).max(1) as usize
 }
 
-// Writes a number's groups from an offset on, and answers the offset after them.
-pub(crate) fn write_groups(bytes: &mut [u8], at: usize, n: u32) -> usize
-    requires { at + length (groups n) ≤ length bytes.old }
-    ensures end { result ≡ at + length (groups n) }
-    ensures bytes { bytes.new ≡ take at bytes.old ++ (groups n ++ drop (at + length (groups n)) bytes.old) }
-    ensures back { read_at 5 (drop at bytes.new) at ≡ Some (n, result) }
+// Adds a number's groups of seven bits, low group first, the top bit set on all but the last.
+// Whatever follows them, the number is read back, and what follows is left.
+pub(crate) fn write_groups(bytes: &mut Table<u8>, n: u32)
+    requires { HasRoom bytes.old (groups n) }
+    ensures written { Extended bytes.old (groups n) bytes.new }
+    ensures back { (rest : List ℕ) → read_first 5 (drop (length (items bytes.old)) (items bytes.new) ++ rest) ≡ Some (n, rest) }
 {
-    let last = group_count(n) - 1;
     let mut rest = n;
-    for i in 0..last {
-        bytes[at + i] = 128 + (rest % 128) as u8;
+    while rest >= 128 {
+        bytes.push(128 + (rest % 128) as u8);
         rest /= 128;
     }
-    bytes[at + last] = (rest % 128) as u8;
-    at + last + 1
+    bytes.push(rest as u8);
 }
 
-// Reads the groups of one number, at most `most`, from an offset on:
-// the number and the offset after it, or none where they do not end in time.
-pub(crate) fn read_groups(bytes: &[u8], at: usize, most: usize) -> Option<(u64, usize)>
+// Reads the groups of one number, at most `most`: the number and the bytes after it,
+// or none where they do not end in time.
+pub(crate) fn read_groups(bytes: &[u8], most: usize) -> Option<(u64, &[u8])>
     requires { limit most ≤ 34359738368 }
-    ensures answer { result ≡ read_at most (drop at bytes.now) at }
+    ensures answer { answer_of result ≡ read_first most bytes.now }
     ensures fits { IfSome result (λ p. p.0 < limit most) }
 {
-    if most == 0 || at >= bytes.len() {
+    if most == 0 {
         return None;
     }
-    let group = bytes[at] as u64;
-    if group < 128 {
-        return Some((group, at + 1));
+    match bytes {
+        [] => None,
+        [last, rest @ ..] if *last < 128 => Some((*last as u64, rest)),
+        [group, rest @ ..] => {
+            let (high, rest) = read_groups(rest, most - 1)?;
+            Some((*group as u64 - 128 + 128 * high, rest))
+        }
     }
-    let (high, end) = read_groups(bytes, at + 1, most - 1)?;
-    Some((group - 128 + 128 * high, end))
 }
 
 // A signed number as an unsigned one: small numbers of either sign stay small.

@@ -1,5 +1,5 @@
 // An instruction as a number and three operands.
-ghost use Rattle.std.specs.Prelude.{◌≡◌, ◌≤◌};
+ghost use Rattle.std.specs.Prelude.{◌≡◌, ◌≤◌, length, take, Some, None, MatchResult};
 ghost use Rattle.shelves.specs.Parts.{arity, instruction_of, parts_of};
 
 use crate::groups::{fold_sign, unfold_sign};
@@ -11,6 +11,10 @@ pub(crate) struct Parts {
     pub code: u8,
     pub operands: [u32; 3],
 }
+
+// A code number that no instruction has.
+#[derive(Debug, Drop)]
+pub(crate) struct UnknownCode;
 
 // How many operands the instruction of a code number has.
 pub(crate) fn arity(code: u8) -> usize
@@ -26,102 +30,109 @@ pub(crate) fn arity(code: u8) -> usize
 }
 
 impl Parts {
-    fn new(code: u8, operands: [u32; 3]) -> Self
-        ensures { (result.code ≡ code) × (result.operands ≡ operands) }
+    // The operands that are present.
+    pub(crate) fn present(&self) -> &[u32]
+        ensures value { result.now ≡ take (arity self.now.code) self.now.operands }
+        ensures most { length result.now ≤ 3 }
     {
+        &self.operands[..arity(self.code)]
+    }
+}
+
+impl From<Instruction> for Parts {
+    ghost from_gives = { λ i parts. parts ≡ parts_of i };
+
+    fn from(instruction: Instruction) -> Self {
+        let (code, operands) = match instruction {
+            Instruction::Lit(value) => (0, [fold_sign(value), 0, 0]),
+            Instruction::Var(level, at) => (1, [level as u32, at, 0]),
+            Instruction::Off(offset) => (2, [offset, 0, 0]),
+            Instruction::Ld => (3, [0, 0, 0]),
+            Instruction::St => (4, [0, 0, 0]),
+            Instruction::Stk => (5, [0, 0, 0]),
+            Instruction::Copy(size) => (6, [size, 0, 0]),
+            Instruction::Index(count, width) => (7, [count, width, 0]),
+            Instruction::Add => (8, [0, 0, 0]),
+            Instruction::Sub => (9, [0, 0, 0]),
+            Instruction::Mul => (10, [0, 0, 0]),
+            Instruction::Div => (11, [0, 0, 0]),
+            Instruction::Mod => (12, [0, 0, 0]),
+            Instruction::Neg => (13, [0, 0, 0]),
+            Instruction::Not => (14, [0, 0, 0]),
+            Instruction::And => (15, [0, 0, 0]),
+            Instruction::Or => (16, [0, 0, 0]),
+            Instruction::Lt => (17, [0, 0, 0]),
+            Instruction::Le => (18, [0, 0, 0]),
+            Instruction::Gt => (19, [0, 0, 0]),
+            Instruction::Ge => (20, [0, 0, 0]),
+            Instruction::Eq => (21, [0, 0, 0]),
+            Instruction::Ne => (22, [0, 0, 0]),
+            Instruction::Jmp(target) => (23, [target, 0, 0]),
+            Instruction::Jf(target) => (24, [target, 0, 0]),
+            Instruction::Geti => (25, [0, 0, 0]),
+            Instruction::Getb => (26, [0, 0, 0]),
+            Instruction::Puti => (27, [0, 0, 0]),
+            Instruction::Putb => (28, [0, 0, 0]),
+            Instruction::Nl => (29, [0, 0, 0]),
+            Instruction::Zero(level, at, size) => (30, [level as u32, at, size]),
+            Instruction::Frame(size) => (31, [size, 0, 0]),
+            Instruction::Enter(level, target) => (32, [level as u32, target, 0]),
+            Instruction::Leave(level) => (33, [level as u32, 0, 0]),
+            Instruction::Dup => (34, [0, 0, 0]),
+            Instruction::Pop => (35, [0, 0, 0]),
+            Instruction::Stop => (36, [0, 0, 0]),
+        };
         Parts { code, operands }
     }
+}
 
-    // The parts of an instruction.
-    pub(crate) fn of(instruction: Instruction) -> Self
-        ensures { result ≡ parts_of instruction }
-    {
-        match instruction {
-            Instruction::Lit(value) => Parts::new(0, [fold_sign(value), 0, 0]),
-            Instruction::Var(level, at) => Parts::new(1, [level as u32, at, 0]),
-            Instruction::Off(offset) => Parts::new(2, [offset, 0, 0]),
-            Instruction::Ld => Parts::new(3, [0, 0, 0]),
-            Instruction::St => Parts::new(4, [0, 0, 0]),
-            Instruction::Stk => Parts::new(5, [0, 0, 0]),
-            Instruction::Copy(size) => Parts::new(6, [size, 0, 0]),
-            Instruction::Index(count, width) => Parts::new(7, [count, width, 0]),
-            Instruction::Add => Parts::new(8, [0, 0, 0]),
-            Instruction::Sub => Parts::new(9, [0, 0, 0]),
-            Instruction::Mul => Parts::new(10, [0, 0, 0]),
-            Instruction::Div => Parts::new(11, [0, 0, 0]),
-            Instruction::Mod => Parts::new(12, [0, 0, 0]),
-            Instruction::Neg => Parts::new(13, [0, 0, 0]),
-            Instruction::Not => Parts::new(14, [0, 0, 0]),
-            Instruction::And => Parts::new(15, [0, 0, 0]),
-            Instruction::Or => Parts::new(16, [0, 0, 0]),
-            Instruction::Lt => Parts::new(17, [0, 0, 0]),
-            Instruction::Le => Parts::new(18, [0, 0, 0]),
-            Instruction::Gt => Parts::new(19, [0, 0, 0]),
-            Instruction::Ge => Parts::new(20, [0, 0, 0]),
-            Instruction::Eq => Parts::new(21, [0, 0, 0]),
-            Instruction::Ne => Parts::new(22, [0, 0, 0]),
-            Instruction::Jmp(target) => Parts::new(23, [target, 0, 0]),
-            Instruction::Jf(target) => Parts::new(24, [target, 0, 0]),
-            Instruction::Geti => Parts::new(25, [0, 0, 0]),
-            Instruction::Getb => Parts::new(26, [0, 0, 0]),
-            Instruction::Puti => Parts::new(27, [0, 0, 0]),
-            Instruction::Putb => Parts::new(28, [0, 0, 0]),
-            Instruction::Nl => Parts::new(29, [0, 0, 0]),
-            Instruction::Zero(level, at, size) => Parts::new(30, [level as u32, at, size]),
-            Instruction::Frame(size) => Parts::new(31, [size, 0, 0]),
-            Instruction::Enter(level, target) => Parts::new(32, [level as u32, target, 0]),
-            Instruction::Leave(level) => Parts::new(33, [level as u32, 0, 0]),
-            Instruction::Dup => Parts::new(34, [0, 0, 0]),
-            Instruction::Pop => Parts::new(35, [0, 0, 0]),
-            Instruction::Stop => Parts::new(36, [0, 0, 0]),
-        }
-    }
+impl TryFrom<Parts> for Instruction {
+    type Error = UnknownCode;
 
-    // The instruction that has these parts, or none where the code number is none of an instruction.
-    pub(crate) fn instruction(self) -> Option<Instruction>
-        ensures { result ≡ instruction_of self.code self.operands }
-    {
-        let [a, b, c] = self.operands;
+    ghost try_from_gives = { λ parts r. MatchResult r (λ i. instruction_of parts.code parts.operands ≡ Some i) (λ _. instruction_of parts.code parts.operands ≡ None) };
+
+    fn try_from(parts: Parts) -> Result<Self, UnknownCode> {
+        let [a, b, c] = parts.operands;
         let level = a.min(255) as u8;
-        match self.code {
-            0 => Some(Instruction::Lit(unfold_sign(a))),
-            1 => Some(Instruction::Var(level, b)),
-            2 => Some(Instruction::Off(a)),
-            3 => Some(Instruction::Ld),
-            4 => Some(Instruction::St),
-            5 => Some(Instruction::Stk),
-            6 => Some(Instruction::Copy(a)),
-            7 => Some(Instruction::Index(a, b)),
-            8 => Some(Instruction::Add),
-            9 => Some(Instruction::Sub),
-            10 => Some(Instruction::Mul),
-            11 => Some(Instruction::Div),
-            12 => Some(Instruction::Mod),
-            13 => Some(Instruction::Neg),
-            14 => Some(Instruction::Not),
-            15 => Some(Instruction::And),
-            16 => Some(Instruction::Or),
-            17 => Some(Instruction::Lt),
-            18 => Some(Instruction::Le),
-            19 => Some(Instruction::Gt),
-            20 => Some(Instruction::Ge),
-            21 => Some(Instruction::Eq),
-            22 => Some(Instruction::Ne),
-            23 => Some(Instruction::Jmp(a)),
-            24 => Some(Instruction::Jf(a)),
-            25 => Some(Instruction::Geti),
-            26 => Some(Instruction::Getb),
-            27 => Some(Instruction::Puti),
-            28 => Some(Instruction::Putb),
-            29 => Some(Instruction::Nl),
-            30 => Some(Instruction::Zero(level, b, c)),
-            31 => Some(Instruction::Frame(a)),
-            32 => Some(Instruction::Enter(level, b)),
-            33 => Some(Instruction::Leave(level)),
-            34 => Some(Instruction::Dup),
-            35 => Some(Instruction::Pop),
-            36 => Some(Instruction::Stop),
-            _ => None,
-        }
+        Ok(match parts.code {
+            0 => Instruction::Lit(unfold_sign(a)),
+            1 => Instruction::Var(level, b),
+            2 => Instruction::Off(a),
+            3 => Instruction::Ld,
+            4 => Instruction::St,
+            5 => Instruction::Stk,
+            6 => Instruction::Copy(a),
+            7 => Instruction::Index(a, b),
+            8 => Instruction::Add,
+            9 => Instruction::Sub,
+            10 => Instruction::Mul,
+            11 => Instruction::Div,
+            12 => Instruction::Mod,
+            13 => Instruction::Neg,
+            14 => Instruction::Not,
+            15 => Instruction::And,
+            16 => Instruction::Or,
+            17 => Instruction::Lt,
+            18 => Instruction::Le,
+            19 => Instruction::Gt,
+            20 => Instruction::Ge,
+            21 => Instruction::Eq,
+            22 => Instruction::Ne,
+            23 => Instruction::Jmp(a),
+            24 => Instruction::Jf(a),
+            25 => Instruction::Geti,
+            26 => Instruction::Getb,
+            27 => Instruction::Puti,
+            28 => Instruction::Putb,
+            29 => Instruction::Nl,
+            30 => Instruction::Zero(level, b, c),
+            31 => Instruction::Frame(a),
+            32 => Instruction::Enter(level, b),
+            33 => Instruction::Leave(level),
+            34 => Instruction::Dup,
+            35 => Instruction::Pop,
+            36 => Instruction::Stop,
+            _ => return Err(UnknownCode),
+        })
     }
 }

@@ -1,54 +1,46 @@
 // Instructions are written to bytes.
-ghost use Rattle.std.specs.Prelude.{◌≡◌, ◌+◌, ◌*◌, ◌≤◌, length};
-ghost use Rattle.std.proofs.Math.Seq.{paste};
+ghost use Rattle.std.specs.Prelude.{◌≡◌, ◌≤◌, length, sum_by};
 ghost use Rattle.std.specs.List.{flat_map};
+ghost use Rattle.tables.specs.Items.{HasRoom, Extended};
 ghost use Rattle.shelves.specs.Groups.{groups};
 ghost use Rattle.shelves.specs.Bytes.{encoded};
 
 use crate::groups::{group_count, write_groups};
-use crate::parts::{Parts, arity};
+use crate::parts::Parts;
 use machine::instruction::Instruction;
+use tables::table::Table;
 
 // How many bytes numbers take in groups, one after the other.
 fn groups_length(numbers: &[u32]) -> usize
     requires { length numbers.now ≤ 3 }
-    ensures { result ≡ length (flat_map groups numbers.now) }
+    ensures { result ≡ sum_by (λ n. length (groups n)) numbers.now }
 {
-    let mut total = 0;
-    for n in numbers {
-        total += group_count(*n);
-    }
-    total
+    numbers.iter().map(|n| group_count(*n)).sum()
 }
 
-// Writes numbers in groups, one after the other, from an offset on, and answers the offset after them.
-fn write_numbers(bytes: &mut [u8], at: usize, numbers: &[u32]) -> usize
-    requires { at + length (flat_map groups numbers.now) ≤ length bytes.old }
-    ensures end { result ≡ at + length (flat_map groups numbers.now) }
-    ensures bytes { bytes.new ≡ paste bytes.old at (flat_map groups numbers.now) (length (flat_map groups numbers.now)) }
+// Adds numbers in groups, one after the other.
+fn write_numbers(bytes: &mut Table<u8>, numbers: &[u32])
+    requires { HasRoom bytes.old (flat_map groups numbers.now) }
+    ensures { Extended bytes.old (flat_map groups numbers.now) bytes.new }
 {
-    let mut end = at;
     for n in numbers {
-        end = write_groups(bytes, end, *n);
+        write_groups(bytes, *n);
     }
-    end
 }
 
 // How many bytes an instruction takes.
 pub(crate) fn encoded_length(instruction: Instruction) -> usize
     ensures { result ≡ length (encoded instruction) }
 {
-    let parts = Parts::of(instruction);
-    1 + groups_length(&parts.operands[0..arity(parts.code)])
+    1 + groups_length(Parts::from(instruction).present())
 }
 
-// Writes the bytes of an instruction from an offset on, and answers the offset after them.
-pub(crate) fn write_instruction(bytes: &mut [u8], at: usize, instruction: Instruction) -> usize
-    requires { at + length (encoded instruction) ≤ length bytes.old }
-    ensures end { result ≡ at + length (encoded instruction) }
-    ensures bytes { bytes.new ≡ paste bytes.old at (encoded instruction) (length (encoded instruction)) }
+// Adds the bytes of an instruction.
+pub(crate) fn write_instruction(bytes: &mut Table<u8>, instruction: Instruction)
+    requires { HasRoom bytes.old (encoded instruction) }
+    ensures { Extended bytes.old (encoded instruction) bytes.new }
 {
-    let parts = Parts::of(instruction);
-    bytes[at] = parts.code;
-    write_numbers(bytes, at + 1, &parts.operands[0..arity(parts.code)])
+    let parts = Parts::from(instruction);
+    bytes.push(parts.code);
+    write_numbers(bytes, parts.present());
 }

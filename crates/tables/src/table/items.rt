@@ -1,6 +1,6 @@
 // What a table does: it takes items at its end, hands them out, and lets the last ones go.
-ghost use Rattle.std.specs.Prelude.{◌≡◌, ◌-◌, ◌<◌, ◌≤◌, [], length, take, slice_index_or};
-ghost use Rattle.tables.specs.Items.{items, capacity, item_at, Pushed};
+ghost use Rattle.std.specs.Prelude.{◌≡◌, ◌-◌, ◌<◌, [], length, take};
+ghost use Rattle.tables.specs.Items.{items, capacity, item_at, HasRoom, Pushed, Extended};
 
 use crate::table::Table;
 
@@ -9,6 +9,7 @@ impl<'a, T: Copy> Table<'a, T> {
     pub fn over(cells: &'a mut [T]) -> Table<'a, T>
         ensures empty { items result ≡ [] }
         ensures room { capacity result ≡ length cells.old }
+        ensures cells { (result.used ≡ 0) × (result.cells.now ≡ cells.old) }
     {
         Table { cells, used: 0 }
     }
@@ -17,14 +18,21 @@ impl<'a, T: Copy> Table<'a, T> {
     pub fn len(&self) -> usize
         ensures { result ≡ length (items self.now) }
     {
-        self.used
+        self.as_slice().len()
+    }
+
+    // How many items there may be.
+    pub fn capacity(&self) -> usize
+        ensures { result ≡ capacity self.now }
+    {
+        self.cells.len()
     }
 
     // How many items may be added.
     pub fn room(&self) -> usize
         ensures { result ≡ capacity self.now - length (items self.now) }
     {
-        self.cells.len() - self.used
+        self.capacity() - self.len()
     }
 
     // Adds an item, and says where it stands.
@@ -38,21 +46,28 @@ impl<'a, T: Copy> Table<'a, T> {
         at
     }
 
+    // Adds items, one after the other.
+    pub fn extend_from_slice(&mut self, more: &[T])
+        requires { HasRoom self.old more.now }
+        ensures { Extended self.old more.now self.new }
+    {
+        let end = self.used + more.len();
+        self.cells[self.used..end].copy_from_slice(more);
+        self.used = end;
+    }
+
     // The item at a number, or none past the end.
     pub fn get(&self, at: usize) -> Option<T>
         ensures { result ≡ item_at (items self.now) at }
     {
-        if at >= self.used {
-            return None;
-        }
-        Some(cell(self.cells, at))
+        self.as_slice().get(at).copied()
     }
 
     // All items, in order.
     pub fn as_slice(&self) -> &[T]
         ensures { result.now ≡ items self.now }
     {
-        &self.cells[0..self.used]
+        &self.cells[..self.used]
     }
 
     // Lets go all items but the first `len`.
@@ -60,16 +75,14 @@ impl<'a, T: Copy> Table<'a, T> {
         ensures items { items self.new ≡ take len (items self.old) }
         ensures room { capacity self.new ≡ capacity self.old }
     {
-        if len < self.used {
-            self.used = len;
-        }
+        self.used = self.used.min(len);
     }
-}
 
-// One element of a slice.
-fn cell<T: Copy>(cells: &[T], at: usize) -> T
-    requires { at < length cells.now }
-    ensures { (d : T) → result ≡ slice_index_or cells.now at d }
-{
-    cells[at]
+    // Lets go all items.
+    pub fn clear(&mut self)
+        ensures items { items self.new ≡ [] }
+        ensures room { capacity self.new ≡ capacity self.old }
+    {
+        self.used = 0;
+    }
 }

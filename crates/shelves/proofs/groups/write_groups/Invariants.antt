@@ -1,8 +1,16 @@
-use Rattle.std.proofs.Common.{◌≡◌, ◌-◌, drop}
-use lib.Seq.{paste}
-use Rattle.shelves.specs.Groups.{coded, groups}
+use Rattle.std.proofs.Common.{◌≡◌, ◌^◌, ◌<◌, ◌++◌}
+use Rattle.tables.specs.Items.{items, capacity}
+use Rattle.shelves.specs.Groups.{groups}
 use Rattle.shelves.proofs.groups.write_groups.Given as goal
 
--- i groups are written, and the rest is what the other groups code
-abbrev pub invariant-loop-i : goal.invariant-loop-i
-invariant-loop-i l = (l.bytes ≡ paste l.initial.bytes l.at (groups l.n) l.i) × (drop l.i (groups l.n) ≡ coded (4 - l.i) l.rest)
+-- the groups that were added and those of the rest
+abbrev pub invariant-loop-rest : goal.invariant-loop-rest
+invariant-loop-rest l =
+    record {
+      joined : items l.bytes ++ groups l.rest ≡ items l.initial.bytes ++ groups l.n;
+      kept : capacity l.bytes ≡ capacity l.initial.bytes;
+      fits : l.rest < 2 ^ 32;
+    }
+
+abbrev pub decreases-loop-rest : goal.decreases-loop-rest
+decreases-loop-rest l = l.rest

@@ -1,9 +1,13 @@
-use Rattle.std.proofs.Common.{take, arith, rules}
-use Rattle.shelves.proofs.Laws.{decoded_lawful, used_total}
+use Rattle.std.proofs.Common.{arith, length-take}
+use Rattle.tables.specs.Items.{items}
+use Rattle.shelves.proofs.Laws.{decoded_lawful, bytes_total}
 use Rattle.shelves.proofs.byte_shelf.ByteShelfShelf.capacity.Goals as goal
 
-pub returns : goal.returns
-returns c =
+pub returns-clause-kept : goal.returns-clause-kept
+returns-clause-kept c =
     let s = c.args.self.now in
-    let total = used_total s.tape.bytes.now s.used (omega arith) s.sound in
-    record { value = search rules; kept = record { sound = decoded_lawful (take s.used s.tape.bytes.now); within = omega arith; most = omega arith } }
+    record {
+      sound = decoded_lawful (items s.bytes);
+      within = omega (arith, bytes_total (items s.bytes) s.sound, length-take s.bytes.used s.bytes.cells.now);
+      most = omega arith;
+    }

@@ -1,10 +1,9 @@
-use Rattle.std.proofs.Common.{length, sym, refl, ap, arith}
-use Rattle.shelves.specs.Bytes.{encoded_all}
-use Rattle.shelves.proofs.Laws.{decoded_nil}
+use Rattle.std.proofs.Common.{length, sym, ap, arith}
+use Rattle.tables.specs.Items.{items}
+use Rattle.shelves.proofs.Laws.{no_code}
 use Rattle.shelves.proofs.byte_shelf.ByteShelfShelf.clear.Goals as goal
 
 pub invariant_of-self : goal.invariant_of-self
-invariant_of-self c = record { within = omega arith; sound = ap encoded_all decoded_nil; counted = ap length (sym decoded_nil) }
-
-pub returns : goal.returns
-returns c = record { after = decoded_nil; fixed = (refl, refl) }
+invariant_of-self c =
+    let none = no_code (items c.clear.new.self) c.clear.ensures.items in
+    record { within = omega (arith, ap length c.clear.ensures.items); sound = none.1; counted = ap length (sym none.0) }

@@ -1,9 +1,7 @@
 use Rattle.std.proofs.Common.{arith}
-use Rattle.shelves.proofs.Laws.{used_few}
+use Rattle.tables.specs.Items.{items}
+use Rattle.shelves.proofs.Laws.{bytes_few}
 use Rattle.shelves.proofs.byte_shelf.ByteShelfShelf.count.Goals as goal
 
-pub returns : goal.returns
-returns c =
-    let s = c.args.self.now in
-    let few = used_few s.tape.bytes.now s.used (omega arith) s.sound in
-    record { value = s.counted; most = omega arith }
+pub returns-clause-most : goal.returns-clause-most
+returns-clause-most c = let s = c.args.self.now in omega (arith, bytes_few (items s.bytes) s.sound)

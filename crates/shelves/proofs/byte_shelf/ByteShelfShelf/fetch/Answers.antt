@@ -1,19 +1,17 @@
-use Rattle.std.proofs.Common.{◌<◌, take, sym, ◌∙◌, arith}
-use Rattle.shelves.proofs.Codes.{fetched_past, fetched_sound}
+use Rattle.std.proofs.Common.{◌≡◌, sym, ap, ◌∙◌, arith}
+use Rattle.std.proofs.lemmas.Iterator.Consumers.{nth_from_yields_List, YieldsList-from_first}
+use Rattle.std.proofs.lemmas.Iterator.Adapters.{option_map_id}
+use Rattle.machine.specs.Shelves.{fetched}
+use Rattle.tables.specs.Items.{items}
 use Rattle.shelves.specs.Bytes.{decoded}
-use Rattle.shelves.proofs.Laws.{decoded_lawful, used_few, used_nth}
+use Rattle.shelves.proofs.Codes.{fetched_sound}
+use Rattle.shelves.proofs.Laws.{bytes_few, decoded_lawful}
 use Rattle.shelves.proofs.byte_shelf.ByteShelfShelf.fetch.Goals as goal
 
-pub returns-then-n-self : goal.returns-then-n-self
-returns-then-n-self c =
+pub returns : goal.returns
+returns c =
     let s = c.args.self.now in
-    let n = c.args.n in
-    let first = take s.used s.tape.bytes.now in
-    let few = used_few s.tape.bytes.now s.used (omega arith) s.sound in
-    let found = c.nth_from.ensures ∙ used_nth s.tape.bytes.now s.used n s.sound (omega arith) in
-    record { answer = found; sound = rw (sym found) at (fetched_sound (n < 1048576) (decoded first) n (decoded_lawful first) (omega arith)) }
-
-pub returns-else-n-self : goal.returns-else-n-self
-returns-else-n-self c =
-    let s = c.args.self.now in
-    record { answer = sym (fetched_past (decoded (take s.used s.tape.bytes.now)) c.args.n (omega arith)); sound = tt }
+    let code = decoded (items s.bytes) in
+    let got = nth_from_yields_List c.nth.result c.nth.new.self c.args.n c.nth.ensures.ran (YieldsList-from_first (λ i. i) (λ s. decoded s.bytes.now) code (ap decoded c.as_slice.ensures)) in
+    let answer : c.nth.result ≡ fetched code c.args.n = sym (option_map_id c.nth.result) ∙ got in
+    record { answer = answer; sound = fetched_sound c.nth.result code c.args.n 1048576 answer (decoded_lawful (items s.bytes)) (omega (arith, bytes_few (items s.bytes) s.sound)) }

@@ -1,8 +1,11 @@
-use Rattle.std.proofs.Common.{arith, rules}
-use Rattle.shelves.proofs.Codes.{total_taken}
+use Rattle.std.proofs.Common.{◌≤◌, min, arith, length-take}
+use Rattle.machine.specs.Shelves.{total}
+use Rattle.tables.specs.Items.{items, capacity}
+use Rattle.shelves.proofs.Codes.{total_ones}
 use Rattle.shelves.proofs.record.RecordShelfShelf.capacity.Goals as goal
 
-pub returns : goal.returns
-returns c =
-    let t = total_taken c.args.self.now.slots.now c.args.self.now.used (omega arith) in
-    record { value = search rules; kept = record { sound = c.args.self.now.kept; within = omega arith; most = omega arith } }
+pub returns-clause-kept : goal.returns-clause-kept
+returns-clause-kept c =
+    let s = c.args.self.now in
+    let t : total (λ _. 1) (items s.code) ≤ min (capacity s.code) 1048576 = omega (arith, total_ones (items s.code), length-take s.code.used s.code.cells.now) in
+    record { sound = s.kept; within = t; most = omega arith }
