@@ -1,9 +1,7 @@
 -- What an instruction makes of the operands, where it changes nothing else.
-use Rattle.std.specs.Prelude.{ℕ, Bool, true, false, cond, ◌∷◌, ℤ, pos, ◌+ℤ◌, ◌*ℤ◌, Result, FitsSigned}
+use Rattle.std.specs.Prelude.{ℕ, cond, ◌∷◌, ℤ, pos, ◌+ℤ◌, ◌*ℤ◌, Result, FitsSigned}
 use Rattle.std.specs.Int.{w32}
 use Rattle.machine.specs.declared.fault.Fault.{Fault}
-use Rattle.machine.specs.declared.instruction.Instruction.{Instruction}
-use Rattle.machine.specs.declared.instruction.Instruction.TheVariants.{Var, St, Stk, Copy, Jmp, Jf, Geti, Getb, Puti, Putb, Nl, Zero, Frame, Enter, Leave, Stop}
 use Rattle.machine.specs.Faults.{Answered}
 use Rattle.machine.specs.Ints.{Answer, in_range}
 use Rattle.machine.specs.Machine.{Machine, Effect, goes, fails, on, one, two, made, settled}
@@ -25,23 +23,3 @@ Follows answers rule = (x y : ℤ) (r : Result ℤ Fault) → FitsSigned w32 x �
 
 abbrev pub FollowsOne : (ℤ → Result ℤ Fault → Type 0) → (ℤ → Answer) → Type 0
 FollowsOne answers rule = (x : ℤ) (r : Result ℤ Fault) → FitsSigned w32 x → answers x r → Answered (rule x) r
-
--- the instructions that change the operands and nothing else, but for the address of a variable
-abbrev pub plain : Instruction → Bool
-plain (Var l k) = false
-plain St = false
-plain Stk = false
-plain (Copy n) = false
-plain (Jmp t) = false
-plain (Jf t) = false
-plain Geti = false
-plain Getb = false
-plain Puti = false
-plain Putb = false
-plain Nl = false
-plain (Zero l k n) = false
-plain (Frame n) = false
-plain (Enter l t) = false
-plain (Leave l) = false
-plain Stop = false
-plain _ = true

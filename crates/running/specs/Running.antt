@@ -1,7 +1,9 @@
 -- The machine that registers, cells and a host make up, and what a call makes of it.
-use Rattle.std.specs.Prelude.{◌≡◌, ℕ, suc, List, ℤ, Ok, Err, Result, FitsSigned}
+use Rattle.std.specs.Prelude.{◌≡◌, ℕ, suc, Bool, true, false, List, ℤ, Ok, Err, Result, FitsSigned}
 use Rattle.std.specs.Int.{w32}
 use Rattle.machine.specs.declared.fault.Fault.{Fault}
+use Rattle.machine.specs.declared.instruction.Instruction.{Instruction}
+use Rattle.machine.specs.declared.instruction.Instruction.TheVariants.{Copy, Zero, Frame, Enter, Leave, Geti, Getb, Puti, Putb, Nl, Stop}
 use Rattle.machine.specs.declared.host.Host.{Ghosts}
 use Rattle.machine.specs.declared.host.Event.{Event}
 use Rattle.machine.specs.declared.host.Unreadable.{Unreadable}
@@ -12,7 +14,7 @@ use Rattle.machine.specs.Machine.{Machine, Effect, goes, stops, fails, one, say}
 use Rattle.running.specs.declared.registers.Registers.{Registers}
 use Rattle.running.specs.declared.run.Run.{Run}
 use Rattle.running.specs.declared.flow.Flow.{Flow}
-use Rattle.running.specs.declared.flow.Flow.TheVariants.{Next, To, Stop}
+use Rattle.running.specs.declared.flow.Flow.TheVariants.{Next, To, Stop as Halt}
 
 abbrev pub machine_of : Registers → List ℤ → Host → Machine
 machine_of r cs h = record { operands = r.operands; bases = r.bases; next = r.next; top = r.top; cells = cs; host = h }
@@ -29,12 +31,12 @@ at n m = record { operands = m.operands; bases = m.bases; next = n; top = m.top;
 abbrev pub Leads : Machine → Flow → Machine → Machine → Type 0
 Leads m Next before after = m ≡ at (suc before.next) after
 Leads m (To n) before after = m ≡ at n after
-Leads m Stop before after = ⊥
+Leads m Halt before after = ⊥
 
 abbrev pub Ends : Machine → Flow → Machine → Machine → Type 0
 Ends m Next before after = ⊥
 Ends m (To n) before after = ⊥
-Ends m Stop before after = m ≡ at (suc before.next) after
+Ends m Halt before after = m ≡ at (suc before.next) after
 
 -- The effect as a call's answer, with the machine before and after it, but for the move to the next instruction.
 -- A fault leaves cells and host; the registers of a run that has ended mean nothing.
@@ -70,3 +72,18 @@ Makes answers event = (z : ℤ) (e : Event) → FitsSigned w32 z → answers z e
 -- the event of the operand on top is written
 abbrev pub written : (ℤ → Event) → Machine → Effect
 written event m = one m.operands (λ x ops. say (event x) m ops)
+
+-- the instructions on frames, on many cells or on the host, and the last one
+abbrev pub managed : Instruction → Bool
+managed (Copy n) = true
+managed (Zero l k n) = true
+managed (Frame n) = true
+managed (Enter l t) = true
+managed (Leave l) = true
+managed Geti = true
+managed Getb = true
+managed Puti = true
+managed Putb = true
+managed Nl = true
+managed Stop = true
+managed _ = false

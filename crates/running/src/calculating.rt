@@ -1,20 +1,18 @@
 // Instructions that change the operands and nothing else.
 #![tactic(auto, using(crate::proofs::Settling::settling))]
 
-ghost use Rattle.std.specs.Prelude.{◌≡◌, ◌<◌, true, ℤ, IfOk};
+ghost use Rattle.std.specs.Prelude.{◌<◌, ℤ, IfOk};
 ghost use Rattle.machine.specs.declared.instruction.Instruction.TheVariants.{Lit, Var, Off, Ld, Index, Dup, Pop};
 ghost use Rattle.machine.specs.Ints.{Answer};
 ghost use Rattle.machine.specs.Machine.{effect, made};
-ghost use Rattle.running.specs.Calculations.{Follows, FollowsOne, combined, turned, element, plain};
+ghost use Rattle.running.specs.Calculations.{Follows, FollowsOne, combined, turned, element};
 ghost use Rattle.running.specs.Running.{Carried};
 ghost use Rattle.running.specs.Settling.{Settles};
 
 use crate::flow::Flow;
-use crate::operators::{add, divide, multiply, negate, remainder, subtract};
 use crate::run::Run;
 use machine::fault::Fault;
 use machine::host::Host;
-use machine::instruction::Instruction;
 
 // A number as an address.
 fn address(value: i64) -> Result<u32, Fault>
@@ -41,7 +39,7 @@ fn element(count: u32, size: u32, start: i32, index: i32) -> Result<u32, Fault>
 
 impl<H: Host> Run<'_, H> {
     // One operand more, if there are not yet 128.
-    fn push(&mut self, value: i32) -> Result<Flow, Fault>
+    pub(crate) fn push(&mut self, value: i32) -> Result<Flow, Fault>
         ensures { Carried H.Host (effect (Lit value)) self.old result self.new }
     {
         self.registers.push(value)?;
@@ -60,7 +58,7 @@ impl<H: Host> Run<'_, H> {
     }
 
     // The address `count` cells on.
-    fn offset(&mut self, count: u32) -> Result<Flow, Fault>
+    pub(crate) fn offset(&mut self, count: u32) -> Result<Flow, Fault>
         ensures { Carried H.Host (effect (Off count)) self.old result self.new }
     {
         let start = self.registers.pop()?;
@@ -70,7 +68,7 @@ impl<H: Host> Run<'_, H> {
     }
 
     // The address becomes the content of its cell.
-    fn load(&mut self) -> Result<Flow, Fault>
+    pub(crate) fn load(&mut self) -> Result<Flow, Fault>
         ensures { Carried H.Host (effect Ld) self.old result self.new }
     {
         let address = self.registers.pop()?;
@@ -81,7 +79,7 @@ impl<H: Host> Run<'_, H> {
     }
 
     // An array's address and an index become the element's address.
-    fn index(&mut self, count: u32, size: u32) -> Result<Flow, Fault>
+    pub(crate) fn index(&mut self, count: u32, size: u32) -> Result<Flow, Fault>
         ensures { Carried H.Host (effect (Index count size)) self.old result self.new }
     {
         let index = self.registers.pop()?;
@@ -92,7 +90,10 @@ impl<H: Host> Run<'_, H> {
     }
 
     // Two operands become what an operator makes of them.
-    fn binary<F: Fn(i32, i32) -> Result<i32, Fault>>(&mut self, operator: F) -> Result<Flow, Fault>
+    pub(crate) fn binary<F: Fn(i32, i32) -> Result<i32, Fault>>(
+        &mut self,
+        operator: F,
+    ) -> Result<Flow, Fault>
         requires { F.IsAlwaysCallable operator }
         ensures { (rule : ℤ → ℤ → Answer) → Follows (F.post operator) rule → Carried H.Host (combined rule) self.old result self.new }
     {
@@ -104,7 +105,10 @@ impl<H: Host> Run<'_, H> {
     }
 
     // An operand becomes what an operator makes of it.
-    fn unary<F: Fn(i32) -> Result<i32, Fault>>(&mut self, operator: F) -> Result<Flow, Fault>
+    pub(crate) fn unary<F: Fn(i32) -> Result<i32, Fault>>(
+        &mut self,
+        operator: F,
+    ) -> Result<Flow, Fault>
         requires { F.IsAlwaysCallable operator }
         ensures { (rule : ℤ → Answer) → FollowsOne (F.post operator) rule → Carried H.Host (turned rule) self.old result self.new }
     {
@@ -115,7 +119,7 @@ impl<H: Host> Run<'_, H> {
     }
 
     // The newest operand stands twice.
-    fn double(&mut self) -> Result<Flow, Fault>
+    pub(crate) fn double(&mut self) -> Result<Flow, Fault>
         ensures { Carried H.Host (effect Dup) self.old result self.new }
     {
         let x = self.registers.pop()?;
@@ -125,40 +129,10 @@ impl<H: Host> Run<'_, H> {
     }
 
     // The newest operand goes.
-    fn discard(&mut self) -> Result<Flow, Fault>
+    pub(crate) fn discard(&mut self) -> Result<Flow, Fault>
         ensures { Carried H.Host (effect Pop) self.old result self.new }
     {
         self.registers.pop()?;
         Ok(Flow::Next)
-    }
-
-    // Carries out an instruction that changes the operands and nothing else.
-    pub(crate) fn calculate(&mut self, instruction: Instruction) -> Result<Flow, Fault>
-        ensures { plain instruction ≡ true → Carried H.Host (effect instruction) self.old result self.new }
-    {
-        match instruction {
-            Instruction::Lit(value) => self.push(value),
-            Instruction::Off(count) => self.offset(count),
-            Instruction::Ld => self.load(),
-            Instruction::Index(count, size) => self.index(count, size),
-            Instruction::Add => self.binary(add),
-            Instruction::Sub => self.binary(subtract),
-            Instruction::Mul => self.binary(multiply),
-            Instruction::Div => self.binary(divide),
-            Instruction::Mod => self.binary(remainder),
-            Instruction::Neg => self.unary(negate),
-            Instruction::Not => self.unary(|x| Ok(i32::from(x == 0))),
-            Instruction::And => self.binary(|x, y| Ok(i32::from(x != 0 && y != 0))),
-            Instruction::Or => self.binary(|x, y| Ok(i32::from(x != 0 || y != 0))),
-            Instruction::Lt => self.binary(|x, y| Ok(i32::from(x < y))),
-            Instruction::Le => self.binary(|x, y| Ok(i32::from(x <= y))),
-            Instruction::Gt => self.binary(|x, y| Ok(i32::from(x > y))),
-            Instruction::Ge => self.binary(|x, y| Ok(i32::from(x >= y))),
-            Instruction::Eq => self.binary(|x, y| Ok(i32::from(x == y))),
-            Instruction::Ne => self.binary(|x, y| Ok(i32::from(x != y))),
-            Instruction::Dup => self.double(),
-            Instruction::Pop => self.discard(),
-            _ => Ok(Flow::Next),
-        }
     }
 }
