@@ -1,5 +1,5 @@
 -- Where the levels of expressions begin, and what goes on from them.
-use Rattle.std.proofs.Common.{◌≡◌, ℕ, suc, Bool, true, false, cond, List, [], ◌∷◌, ◌++◌, Ok, Err, Result, refl, ap}
+use Rattle.std.proofs.Common.{◌≡◌, ℕ, suc, Bool, true, false, cond, List, [], ◌∷◌, ◌++◌, Some, Ok, Err, Result, refl, ap, subst}
 use Rattle.std.proofs.lemmas.List.{append-nil}
 use Rattle.tiny.specs.declared.tokens.Kind.{Kind}
 use Rattle.tiny.specs.declared.tokens.Kind.TheVariants.{Index, Dot, Name, IndexEnd}
@@ -7,44 +7,43 @@ use Rattle.tiny.specs.declared.tokens.Lexeme.{Lexeme}
 use Rattle.tiny.specs.declared.placed.Placed.{Placed}
 use Rattle.tiny.specs.Token.{Token, is}
 use Rattle.tiny.specs.Scan.{token_in}
-use Rattle.syntax.specs.Grammar.{Sort, Bracket}
-use Rattle.syntax.specs.Grammar.Sort.{e0, e1, e2, e3, e4, e5, e6, basic, content, list}
-use Rattle.syntax.specs.Grammar.Listed.{statements, declarations}
-use Rattle.syntax.specs.Parse.{Tail, Symbol, expect, further, behind, sort_rules, list_rules, run, joined, undered, pushed, dropped, united}
-use Rattle.syntax.specs.Parse.Part.{tail, rest}
-use Rattle.syntax.specs.Parse.Tail.{postfix?, factor?, logic?, minus?, plus?, relation?, assign?, section_tail, statements?}
+use Rattle.syntax.specs.Grammar.{Sort, Listed, Bracket, item, separator, opening}
+use Rattle.syntax.specs.Grammar.Sort.{e0, e1, e2, e3, e4, e5, e6, basic, content, list, enclosed}
+use Rattle.syntax.specs.Grammar.Listed.{declarations, statements, formals, fields, arguments}
+use Rattle.syntax.specs.Grammar.Bracket.{braces, formal_parens, actual_parens}
+use Rattle.syntax.specs.Parse.{Tail, Symbol, expect, further, behind, sort_rules, tail_rules, list_rules, chosen, run, joined, undered, pushed, dropped, united}
+use Rattle.syntax.specs.Parse.Part.{whole, tail, rest}
+use Rattle.syntax.specs.Parse.Tail.{postfix?, factor?, logic?, minus?, plus?, relation?, assign?, more?, section_tail, statements?}
 use Rattle.syntax.specs.Parse.Symbol.{token, part, make}
 use Rattle.syntax.proofs.Steps.{by_behind, by_left, by_tail}
-use Rattle.tables.specs.declared.table.Table.{Table}
-use Rattle.nodes.specs.declared.node.Node.{Node}
-use Rattle.parser.specs.declared.cursor.Cursor.{Cursor}
-use Rattle.parser.specs.declared.faults.ParseFault.{ParseFault}
+use Rattle.parser.specs.declared.parser.Parser.{Parser}
+use Rattle.parser.specs.declared.faults.SyntaxCause.{SyntaxCause}
 use Rattle.parser.specs.Ahead.{ahead, source_of, stands, Took}
 use Rattle.parser.specs.Reading.{Reads, selecting, instructing}
 use Rattle.parser.proofs.Stand.{Stand, Slot, start, by, call, took, done}
 use Rattle.parser.proofs.Ways.{fails, gone, begun_with, only_right}
 
 -- a sort whose rules are those of another with something behind them
-pub opened : (s s' : Sort) (γ : List Symbol) → ((t : Token) → sort_rules s' t ≡ behind γ (sort_rules s t)) → (c : Cursor) (n : Table Node) →
-    Stand (expect s' ∷ []) c n (expect s ∷ γ) [] c n 0 0
-opened s s' γ e c n = by (expect s ∷ γ) (λ β z. by_behind s s' γ e β z (ahead c)) (start (expect s' ∷ []) c n)
+pub opened : (s s' : Sort) (γ : List Symbol) → ((t : Token) → sort_rules s' t ≡ behind γ (sort_rules s t)) → (c : Parser) →
+    Stand (expect s' ∷ []) c (expect s ∷ γ) [] c 0 0
+opened s s' γ e c = by (expect s ∷ γ) (λ β z. by_behind s s' γ e β z (ahead c)) (start (expect s' ∷ []) c)
 
-pub open0 : (c : Cursor) (n : Table Node) → Stand (expect e0 ∷ []) c n (expect e1 ∷ further assign? ∷ []) [] c n 0 0
+pub open0 : (c : Parser) → Stand (expect e0 ∷ []) c (expect e1 ∷ further assign? ∷ []) [] c 0 0
 open0 = opened e1 e0 (further assign? ∷ []) (λ t. refl)
 
-pub open1 : (c : Cursor) (n : Table Node) → Stand (expect e1 ∷ []) c n (expect e2 ∷ further relation? ∷ []) [] c n 0 0
+pub open1 : (c : Parser) → Stand (expect e1 ∷ []) c (expect e2 ∷ further relation? ∷ []) [] c 0 0
 open1 = opened e2 e1 (further relation? ∷ []) (λ t. refl)
 
-pub open2 : (c : Cursor) (n : Table Node) → Stand (expect e2 ∷ []) c n (expect e3 ∷ further minus? ∷ further plus? ∷ []) [] c n 0 0
+pub open2 : (c : Parser) → Stand (expect e2 ∷ []) c (expect e3 ∷ further minus? ∷ further plus? ∷ []) [] c 0 0
 open2 = opened e3 e2 (further minus? ∷ further plus? ∷ []) (λ t. refl)
 
-pub open3 : (c : Cursor) (n : Table Node) → Stand (expect e3 ∷ []) c n (expect e4 ∷ further logic? ∷ []) [] c n 0 0
+pub open3 : (c : Parser) → Stand (expect e3 ∷ []) c (expect e4 ∷ further logic? ∷ []) [] c 0 0
 open3 = opened e4 e3 (further logic? ∷ []) (λ t. refl)
 
-pub open4 : (c : Cursor) (n : Table Node) → Stand (expect e4 ∷ []) c n (expect e5 ∷ further factor? ∷ []) [] c n 0 0
+pub open4 : (c : Parser) → Stand (expect e4 ∷ []) c (expect e5 ∷ further factor? ∷ []) [] c 0 0
 open4 = opened e5 e4 (further factor? ∷ []) (λ t. refl)
 
-pub open6 : (c : Cursor) (n : Table Node) → Stand (expect e6 ∷ []) c n (expect basic ∷ further postfix? ∷ []) [] c n 0 0
+pub open6 : (c : Parser) → Stand (expect e6 ∷ []) c (expect basic ∷ further postfix? ∷ []) [] c 0 0
 open6 = opened basic e6 (further postfix? ∷ []) (λ t. refl)
 
 -- behind an operator: its right side, their node, and what may go on from it
@@ -63,48 +62,93 @@ leafing k o = make (pushed o) ∷ []
 abbrev pub entering : Bracket → Kind → Token → List Symbol
 entering b k o = part (rest b o) ∷ []
 
-pub selected : {α : List Symbol} {c c₁ c₂ : Cursor} {n n₁ : Table Node} {ss : List Slot} {p r : ℕ} {t : Placed Lexeme} →
-    Took (Index ∷ Dot ∷ []) c₁ t c₂ → Stand α c n (further postfix? ∷ []) ss c₁ n₁ p r →
-    Stand α c n (selecting t.what.kind ++ (make (joined (token_in (source_of c) t)) ∷ further postfix? ∷ [])) ss c₂ n₁ (suc p) (suc r)
+pub selected : {α : List Symbol} {c c₁ c₂ : Parser} {ss : List Slot} {p r : ℕ} {t : Placed Lexeme} →
+    Took (Index ∷ Dot ∷ []) c₁ t c₂ → Stand α c (further postfix? ∷ []) ss c₁ p r →
+    Stand α c (selecting t.what.kind ++ (make (joined (token_in (source_of c) t)) ∷ further postfix? ∷ [])) ss c₂ (suc p) (suc r)
 selected {c = c} {c₂ = c₂} {t = t} k s =
     let γ = selecting t.what.kind ++ (make (joined (token_in (source_of c) t)) ∷ further postfix? ∷ []) in
     by γ (λ β z. ap (λ (l : List Symbol). run (l ++ β) z (ahead c₂)) (append-nil γ))
     (took (tail postfix?) (λ k o. selecting k ++ (make (joined o) ∷ further postfix? ∷ [])) (λ o. (refl, (refl, tt))) k s)
 
-pub select_name : (k : Kind) (c : Cursor) (n : Table Node) → is k Dot ≡ true → Stand (selecting k) c n (token Name pushed ∷ []) [] c n 0 0
-select_name k c n e =
+pub select_name : (k : Kind) (c : Parser) → is k Dot ≡ true → Stand (selecting k) c (token Name pushed ∷ []) [] c 0 0
+select_name k c e =
     by (token Name pushed ∷ [])
     (λ β z. ap (λ (b : Bool). run (cond b (token Name pushed ∷ []) (expect e0 ∷ token IndexEnd dropped ∷ []) ++ β) z (ahead c)) e)
-    (start (selecting k) c n)
+    (start (selecting k) c)
+
+-- a list begins with an item, and its separator goes on to the list behind it
+pub open_list : (l : Listed) (c : Parser) → Stand (expect (list l) ∷ []) c (expect (item l) ∷ further (more? l) ∷ []) [] c 0 0
+open_list l = opened (item l) (list l) (further (more? l) ∷ []) (own l)
+  where
+    own : (l : Listed) (t : Token) → sort_rules (list l) t ≡ behind (further (more? l) ∷ []) (sort_rules (item l) t)
+    own declarations t = refl
+    own statements t = refl
+    own formals t = refl
+    own fields t = refl
+    own arguments t = refl
+
+-- the one kind that was asked for, by another name
+pub took_as : {k j : Kind} {c c' : Parser} {t : Placed Lexeme} → k ≡ j → Took (k ∷ []) c t c' → Took (j ∷ []) c t c'
+took_as {c = c} {c' = c'} {t = t} e h = subst (λ i. Took (i ∷ []) c t c') e h
+
+pub lacked_as : {k j : Kind} {c c' : Parser} → k ≡ j → (c' ≡ c) × (stands (k ∷ []) (ahead c) ≡ false) → (c' ≡ c) × (stands (j ∷ []) (ahead c) ≡ false)
+lacked_as {c = c} e (same, none) = (same, subst (λ i. stands (i ∷ []) (ahead c) ≡ false) e none)
+
+-- the separator, and the list behind it
+pub separated : {α γ : List Symbol} {c c₁ c₂ : Parser} {ss : List Slot} {p r : ℕ} {k : Kind} {t : Placed Lexeme} (l : Listed) → k ≡ separator l →
+    Took (k ∷ []) c₁ t c₂ → Stand α c (further (more? l) ∷ γ) ss c₁ p r →
+    Stand α c (expect (list l) ∷ make (joined (token_in (source_of c) t)) ∷ γ) ss c₂ (suc p) (suc r)
+separated l e h s = took (tail (more? l)) (joining (list l)) (λ o. (own l o, tt)) (took_as e h) s
+  where
+    own : (l : Listed) (o : Token) → chosen (separator l) (tail_rules (more? l) o) ≡ Some (joining (list l) (separator l) o)
+    own declarations o = refl
+    own statements o = refl
+    own formals o = refl
+    own fields o = refl
+    own arguments o = refl
+
+pub unseparated : {α γ : List Symbol} {c c₁ c₂ : Parser} {ss : List Slot} {p r : ℕ} {k : Kind} (l : Listed) → k ≡ separator l →
+    (c₂ ≡ c₁) × (stands (k ∷ []) (ahead c₁) ≡ false) → Stand α c (further (more? l) ∷ γ) ss c₁ p r → Stand α c γ ss c₂ p r
+unseparated l e x s = gone (more? l) (separator l ∷ []) (λ t. refl) refl (lacked_as e x) s
+
+-- an opening bracket
+pub bracketed : {c c₁ : Parser} {k : Kind} {t : Placed Lexeme} (b : Bracket) → k ≡ opening b → Took (k ∷ []) c t c₁ →
+    Stand (expect (enclosed b) ∷ []) c (part (rest b (token_in (source_of c) t)) ∷ []) [] c₁ 1 1
+bracketed {c} b e h = took (whole (enclosed b)) (entering b) (λ o. (own b o, tt)) (took_as e h) (start (expect (enclosed b) ∷ []) c)
+  where
+    own : (b : Bracket) (o : Token) → chosen (opening b) (sort_rules (enclosed b) o) ≡ Some (entering b (opening b) o)
+    own braces o = refl
+    own formal_parens o = refl
+    own actual_parens o = refl
 
 -- what another function answers is the answer
-pub handed : {α : List Symbol} {x : Symbol} {c c₁ : Cursor} {n n₁ : Table Node} {p q : ℕ} (r : Result ℕ ParseFault) (c₂ : Cursor) (n₂ : Table Node) →
-    Stand α c n (x ∷ []) [] c₁ n₁ p q → Reads (x ∷ []) c₁ n₁ r c₂ n₂ → Reads α c n r c₂ n₂
-handed (Ok i) c₂ n₂ s h = done (call h s)
-handed (Err f) c₂ n₂ s h = fails h s
+pub handed : {α : List Symbol} {x : Symbol} {c c₁ : Parser} {p q : ℕ} (r : Result ℕ SyntaxCause) (c₂ : Parser) →
+    Stand α c (x ∷ []) [] c₁ p q → Reads (x ∷ []) c₁ r c₂ → Reads α c r c₂
+handed (Ok i) c₂ s h = done (call h s)
+handed (Err f) c₂ s h = fails h s
 
 -- a block's content: instructions, or declarations first
-pub instructed : {α γ : List Symbol} {c c₁ : Cursor} {n n₁ : Table Node} {ss : List Slot} {p r : ℕ} →
-    stands instructing (ahead c₁) ≡ true → Stand α c n (expect content ∷ γ) ss c₁ n₁ p r → Stand α c n (expect (list statements) ∷ γ) ss c₁ n₁ p r
+pub instructed : {α γ : List Symbol} {c c₁ : Parser} {ss : List Slot} {p r : ℕ} →
+    stands instructing (ahead c₁) ≡ true → Stand α c (expect content ∷ γ) ss c₁ p r → Stand α c (expect (list statements) ∷ γ) ss c₁ p r
 instructed {γ = γ} {c₁ = c₁} e s =
     by (expect (list statements) ∷ γ)
     (λ β z. by_left (list statements) content (λ t. behind (further section_tail ∷ []) (list_rules declarations t)) (λ t. refl) (γ ++ β) z (ahead c₁)
     (begun_with (list statements) instructing (λ t. refl) (ahead c₁) e)) s
 
-pub declared : {α γ : List Symbol} {c c₁ : Cursor} {n n₁ : Table Node} {ss : List Slot} {p r : ℕ} →
-    stands instructing (ahead c₁) ≡ false → Stand α c n (expect content ∷ γ) ss c₁ n₁ p r → Stand α c n (expect (list declarations) ∷ further section_tail ∷ γ) ss c₁ n₁ p r
+pub declared : {α γ : List Symbol} {c c₁ : Parser} {ss : List Slot} {p r : ℕ} →
+    stands instructing (ahead c₁) ≡ false → Stand α c (expect content ∷ γ) ss c₁ p r → Stand α c (expect (list declarations) ∷ further section_tail ∷ γ) ss c₁ p r
 declared {γ = γ} {c₁ = c₁} e s =
     by (expect (list declarations) ∷ further section_tail ∷ γ)
     (λ β z. only_right (list declarations) content (further section_tail ∷ []) (list_rules statements) instructing (λ t. refl) (λ t. refl) (γ ++ β) z (ahead c₁) e) s
 
 -- behind the declarations: instructions, or none
-pub instructed_then : {α γ : List Symbol} {c c₁ : Cursor} {n n₁ : Table Node} {ss : List Slot} {p r : ℕ} →
-    stands instructing (ahead c₁) ≡ true → Stand α c n (further statements? ∷ γ) ss c₁ n₁ p r → Stand α c n (expect (list statements) ∷ make united ∷ γ) ss c₁ n₁ p r
+pub instructed_then : {α γ : List Symbol} {c c₁ : Parser} {ss : List Slot} {p r : ℕ} →
+    stands instructing (ahead c₁) ≡ true → Stand α c (further statements? ∷ γ) ss c₁ p r → Stand α c (expect (list statements) ∷ make united ∷ γ) ss c₁ p r
 instructed_then {γ = γ} {c₁ = c₁} e s =
     by (expect (list statements) ∷ make united ∷ γ)
     (λ β z. by_tail (list statements) statements? (make united ∷ []) (λ t. refl) (γ ++ β) z (ahead c₁)
     (begun_with (list statements) instructing (λ t. refl) (ahead c₁) e)) s
 
-pub nothing_then : {α γ : List Symbol} {c c₁ : Cursor} {n n₁ : Table Node} {ss : List Slot} {p r : ℕ} →
-    stands instructing (ahead c₁) ≡ false → Stand α c n (further statements? ∷ γ) ss c₁ n₁ p r → Stand α c n γ ss c₁ n₁ p r
+pub nothing_then : {α γ : List Symbol} {c c₁ : Parser} {ss : List Slot} {p r : ℕ} →
+    stands instructing (ahead c₁) ≡ false → Stand α c (further statements? ∷ γ) ss c₁ p r → Stand α c γ ss c₁ p r
 nothing_then e s = gone statements? instructing (λ t. refl) refl (refl, e) s

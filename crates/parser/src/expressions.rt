@@ -2,170 +2,156 @@
 ghost use Rattle.std.specs.Prelude.{[], ◌∷◌};
 ghost use Rattle.syntax.specs.Grammar.{Sort};
 ghost use Rattle.syntax.specs.Parse.{Tail, expect, further};
-ghost use Rattle.parser.specs.Reading.{Reads, Room, selecting};
+ghost use Rattle.parser.specs.Reading.{Reads, selecting};
 
-use crate::cursor::Cursor;
-use crate::faults::ParseFault;
-use nodes::node::Node;
-use tables::table::Table;
+use crate::faults::SyntaxCause;
+use crate::parser::Parser;
 use tiny::tokens::Kind;
 
-// Level 0: `=` to the right.
-#[cycle(levels)]
-pub fn assignment(cursor: &mut Cursor, nodes: &mut Table<Node>) -> Result<usize, ParseFault>
-    requires { Room cursor.old nodes.old }
-    ensures { Reads (expect Sort.e0 ∷ []) cursor.old nodes.old result cursor.new nodes.new }
-{
-    let left = relations(cursor, nodes)?;
-    if let Some(token) = cursor.take(&[Kind::Becomes]) {
-        let right = assignment(cursor, nodes)?;
-        return Ok(nodes.push(Node::Join { token, left, right }));
+impl Parser<'_, '_, '_> {
+    // Level 0: `=` to the right.
+    #[cycle(levels)]
+    pub fn assignment(&mut self) -> Result<usize, SyntaxCause>
+        ensures { Reads (expect Sort.e0 ∷ []) self.old result self.new }
+    {
+        let left = self.relations()?;
+        if let Some(token) = self.take(&[Kind::Becomes]) {
+            let right = self.assignment()?;
+            return Ok(self.join(token, left, right));
+        }
+        Ok(left)
     }
-    Ok(left)
-}
 
-// Level 1: relations to the left.
-#[cycle(levels)]
-fn relations(cursor: &mut Cursor, nodes: &mut Table<Node>) -> Result<usize, ParseFault>
-    requires { Room cursor.old nodes.old }
-    ensures { Reads (expect Sort.e1 ∷ []) cursor.old nodes.old result cursor.new nodes.new }
-{
-    let mut left = sums(cursor, nodes)?;
-    while let Some(token) = cursor.take(&[
-        Kind::Less,
-        Kind::Greater,
-        Kind::LessEqual,
-        Kind::GreaterEqual,
-        Kind::Equal,
-        Kind::NotEqual,
-    ]) {
-        let right = sums(cursor, nodes)?;
-        left = nodes.push(Node::Join { token, left, right });
+    // Level 1: relations to the left.
+    #[cycle(levels)]
+    fn relations(&mut self) -> Result<usize, SyntaxCause>
+        ensures { Reads (expect Sort.e1 ∷ []) self.old result self.new }
+    {
+        let mut left = self.sums()?;
+        while let Some(token) = self.take(&[
+            Kind::Less,
+            Kind::Greater,
+            Kind::LessEqual,
+            Kind::GreaterEqual,
+            Kind::Equal,
+            Kind::NotEqual,
+        ]) {
+            let right = self.sums()?;
+            left = self.join(token, left, right);
+        }
+        Ok(left)
     }
-    Ok(left)
-}
 
-// Level 2: one `-` at most, and then `+` to the left.
-#[cycle(levels)]
-fn sums(cursor: &mut Cursor, nodes: &mut Table<Node>) -> Result<usize, ParseFault>
-    requires { Room cursor.old nodes.old }
-    ensures { Reads (expect Sort.e2 ∷ []) cursor.old nodes.old result cursor.new nodes.new }
-{
-    let mut left = difference(cursor, nodes)?;
-    while let Some(token) = cursor.take(&[Kind::Plus]) {
-        let right = logic(cursor, nodes)?;
-        left = nodes.push(Node::Join { token, left, right });
+    // Level 2: one `-` at most, and then `+` to the left.
+    #[cycle(levels)]
+    fn sums(&mut self) -> Result<usize, SyntaxCause>
+        ensures { Reads (expect Sort.e2 ∷ []) self.old result self.new }
+    {
+        let mut left = self.difference()?;
+        while let Some(token) = self.take(&[Kind::Plus]) {
+            let right = self.logic()?;
+            left = self.join(token, left, right);
+        }
+        Ok(left)
     }
-    Ok(left)
-}
 
-#[cycle(levels)]
-fn difference(cursor: &mut Cursor, nodes: &mut Table<Node>) -> Result<usize, ParseFault>
-    requires { Room cursor.old nodes.old }
-    ensures { Reads (expect Sort.e3 ∷ further Tail.minus? ∷ []) cursor.old nodes.old result cursor.new nodes.new }
-{
-    let left = logic(cursor, nodes)?;
-    if let Some(token) = cursor.take(&[Kind::Minus]) {
-        let right = logic(cursor, nodes)?;
-        return Ok(nodes.push(Node::Join { token, left, right }));
+    #[cycle(levels)]
+    fn difference(&mut self) -> Result<usize, SyntaxCause>
+        ensures { Reads (expect Sort.e3 ∷ further Tail.minus? ∷ []) self.old result self.new }
+    {
+        let left = self.logic()?;
+        if let Some(token) = self.take(&[Kind::Minus]) {
+            let right = self.logic()?;
+            return Ok(self.join(token, left, right));
+        }
+        Ok(left)
     }
-    Ok(left)
-}
 
-// Level 3: `and` to the right, one `or`.
-#[cycle(levels)]
-fn logic(cursor: &mut Cursor, nodes: &mut Table<Node>) -> Result<usize, ParseFault>
-    requires { Room cursor.old nodes.old }
-    ensures { Reads (expect Sort.e3 ∷ []) cursor.old nodes.old result cursor.new nodes.new }
-{
-    let left = products(cursor, nodes)?;
-    if let Some(token) = cursor.take(&[Kind::And]) {
-        let right = logic(cursor, nodes)?;
-        return Ok(nodes.push(Node::Join { token, left, right }));
+    // Level 3: `and` to the right, one `or`.
+    #[cycle(levels)]
+    fn logic(&mut self) -> Result<usize, SyntaxCause>
+        ensures { Reads (expect Sort.e3 ∷ []) self.old result self.new }
+    {
+        let left = self.products()?;
+        if let Some(token) = self.take(&[Kind::And]) {
+            let right = self.logic()?;
+            return Ok(self.join(token, left, right));
+        }
+        if let Some(token) = self.take(&[Kind::Or]) {
+            let right = self.products()?;
+            return Ok(self.join(token, left, right));
+        }
+        Ok(left)
     }
-    if let Some(token) = cursor.take(&[Kind::Or]) {
-        let right = products(cursor, nodes)?;
-        return Ok(nodes.push(Node::Join { token, left, right }));
-    }
-    Ok(left)
-}
 
-// Level 4: `* / %` to the left.
-#[cycle(levels)]
-fn products(cursor: &mut Cursor, nodes: &mut Table<Node>) -> Result<usize, ParseFault>
-    requires { Room cursor.old nodes.old }
-    ensures { Reads (expect Sort.e4 ∷ []) cursor.old nodes.old result cursor.new nodes.new }
-{
-    let mut left = prefix(cursor, nodes)?;
-    while let Some(token) = cursor.take(&[Kind::Times, Kind::Over, Kind::Percent]) {
-        let right = prefix(cursor, nodes)?;
-        left = nodes.push(Node::Join { token, left, right });
+    // Level 4: `* / %` to the left.
+    #[cycle(levels)]
+    fn products(&mut self) -> Result<usize, SyntaxCause>
+        ensures { Reads (expect Sort.e4 ∷ []) self.old result self.new }
+    {
+        let mut left = self.prefix()?;
+        while let Some(token) = self.take(&[Kind::Times, Kind::Over, Kind::Percent]) {
+            let right = self.prefix()?;
+            left = self.join(token, left, right);
+        }
+        Ok(left)
     }
-    Ok(left)
-}
 
-// Level 5: `-` and `not` before an expression of this level.
-#[cycle(levels)]
-fn prefix(cursor: &mut Cursor, nodes: &mut Table<Node>) -> Result<usize, ParseFault>
-    requires { Room cursor.old nodes.old }
-    ensures { Reads (expect Sort.e5 ∷ []) cursor.old nodes.old result cursor.new nodes.new }
-{
-    if let Some(token) = cursor.take(&[Kind::Minus, Kind::Not]) {
-        let part = prefix(cursor, nodes)?;
-        return Ok(nodes.push(Node::Under { token, part }));
+    // Level 5: `-` and `not` before an expression of this level.
+    #[cycle(levels)]
+    fn prefix(&mut self) -> Result<usize, SyntaxCause>
+        ensures { Reads (expect Sort.e5 ∷ []) self.old result self.new }
+    {
+        if let Some(token) = self.take(&[Kind::Minus, Kind::Not]) {
+            let part = self.prefix()?;
+            return Ok(self.under(token, part));
+        }
+        self.postfix()
     }
-    postfix(cursor, nodes)
-}
 
-// Level 6: `[ ]` and `.` behind an expression.
-#[cycle(levels)]
-fn postfix(cursor: &mut Cursor, nodes: &mut Table<Node>) -> Result<usize, ParseFault>
-    requires { Room cursor.old nodes.old }
-    ensures { Reads (expect Sort.e6 ∷ []) cursor.old nodes.old result cursor.new nodes.new }
-{
-    let mut left = basic(cursor, nodes)?;
-    while let Some(token) = cursor.take(&[Kind::Index, Kind::Dot]) {
-        let right = selector(cursor, nodes, token.what.kind)?;
-        left = nodes.push(Node::Join { token, left, right });
+    // Level 6: `[ ]` and `.` behind an expression.
+    #[cycle(levels)]
+    fn postfix(&mut self) -> Result<usize, SyntaxCause>
+        ensures { Reads (expect Sort.e6 ∷ []) self.old result self.new }
+    {
+        let mut left = self.basic()?;
+        while let Some(token) = self.take(&[Kind::Index, Kind::Dot]) {
+            let right = self.selector(token.what.kind)?;
+            left = self.join(token, left, right);
+        }
+        Ok(left)
     }
-    Ok(left)
-}
 
-// What stands behind `.`, a name, or behind `[`, an expression and `]`.
-#[cycle(levels)]
-fn selector(
-    cursor: &mut Cursor,
-    nodes: &mut Table<Node>,
-    operator: Kind,
-) -> Result<usize, ParseFault>
-    requires { Room cursor.old nodes.old }
-    ensures { Reads (selecting operator) cursor.old nodes.old result cursor.new nodes.new }
-{
-    if operator.is(Kind::Dot) {
-        let token = cursor.expect(&[Kind::Name])?;
-        return Ok(nodes.push(Node::Leaf { token }));
+    // What stands behind `.`, a name, or behind `[`, an expression and `]`.
+    #[cycle(levels)]
+    fn selector(&mut self, operator: Kind) -> Result<usize, SyntaxCause>
+        ensures { Reads (selecting operator) self.old result self.new }
+    {
+        if operator == Kind::Dot {
+            let token = self.expect(&[Kind::Name])?;
+            return Ok(self.leaf(token));
+        }
+        let inner = self.assignment()?;
+        self.expect(&[Kind::IndexEnd])?;
+        Ok(inner)
     }
-    let inner = assignment(cursor, nodes)?;
-    cursor.expect(&[Kind::IndexEnd])?;
-    Ok(inner)
-}
 
-// A name, a literal, or any expression in parentheses.
-#[cycle(levels)]
-fn basic(cursor: &mut Cursor, nodes: &mut Table<Node>) -> Result<usize, ParseFault>
-    requires { Room cursor.old nodes.old }
-    ensures { Reads (expect Sort.basic ∷ []) cursor.old nodes.old result cursor.new nodes.new }
-{
-    if let Some(token) = cursor.take(&[
-        Kind::Name,
-        Kind::Literal,
-        Kind::TrueWord,
-        Kind::FalseWord,
-    ]) {
-        return Ok(nodes.push(Node::Leaf { token }));
+    // A name, a literal, or any expression in parentheses.
+    #[cycle(levels)]
+    fn basic(&mut self) -> Result<usize, SyntaxCause>
+        ensures { Reads (expect Sort.basic ∷ []) self.old result self.new }
+    {
+        if let Some(token) = self.take(&[
+            Kind::Name,
+            Kind::Literal,
+            Kind::TrueWord,
+            Kind::FalseWord,
+        ]) {
+            return Ok(self.leaf(token));
+        }
+        self.expect(&[Kind::Open])?;
+        let inner = self.assignment()?;
+        self.expect(&[Kind::Close])?;
+        Ok(inner)
     }
-    cursor.expect(&[Kind::Open])?;
-    let inner = assignment(cursor, nodes)?;
-    cursor.expect(&[Kind::Close])?;
-    Ok(inner)
 }
