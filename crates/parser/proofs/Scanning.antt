@@ -16,7 +16,7 @@ pub opposed : {A : Type 0} → true ≡ false → A
 opposed e = absurd (let z : ◌≡◌ {A = ℕ} 0 1 = cc in omega arith)
 
 -- what is left scans, so the scanner is not refused
-pub reads_on : (source : List ℕ) (before : Scanned) (r : Result (Option (Placed Lexeme)) (Placed ScanCause)) (after : Scanned) →
+reads_on : (source : List ℕ) (before : Scanned) (r : Result (Option (Placed Lexeme)) (Placed ScanCause)) (after : Scanned) →
     scanned before ≡ true → Takes source before r after → IsOk r
 reads_on source before (Ok o) after s t = refl
 reads_on source before (Err f) after s t = opposed (sym s ∙ ap scanned t.0)
@@ -36,7 +36,7 @@ abbrev fits : Bool → List ℕ → Scanned
 fits b source = elim b [ true ↦ refused TooLong 16384 | false ↦ scan_from 2048 source 0 ]
 
 -- what scans is scanned from its beginning
-pub from_start : (source : List ℕ) → scanned (scan source) ≡ true → scan source ≡ scan_from 2048 source 0
+from_start : (source : List ℕ) → scanned (scan source) ≡ true → scan source ≡ scan_from 2048 source 0
 unfolding scan
 from_start source s = go (ltb 16384 (length source)) s
   where
@@ -44,7 +44,7 @@ from_start source s = go (ltb 16384 (length source)) s
     go true s = opposed (sym s)
     go false s = refl
 
-pub at_first : (source : List ℕ) (s : Scanner) → scanned (scan source) ≡ true → s.source.now ≡ source → s.at ≡ 0 → s.read ≡ 0 → scan source ≡ left_of s.read s.source.now s.at
+at_first : (source : List ℕ) (s : Scanner) → scanned (scan source) ≡ true → s.source.now ≡ source → s.at ≡ 0 → s.read ≡ 0 → scan source ≡ left_of s.read s.source.now s.at
 at_first source s h q o p =
     from_start source h ∙ ap (λ (k : ℕ). scan_from k source 0) (let e : 2048 ≡ 2048 - s.read = omega arith in e) ∙ ap (λ (l : List ℕ). scan_from (2048 - s.read) l 0) (sym q)
     ∙ ap (λ (k : ℕ). scan_from (2048 - s.read) s.source.now k) (sym o)
@@ -52,21 +52,28 @@ at_first source s h q o p =
 pub next_stands : (ks : List Kind) (p : Parser) (t : Placed Lexeme) → p.next ≡ Some t → stands ks (ahead p) ≡ among t.what.kind ks
 next_stands ks p t e = ap (λ o. stands ks (tokens_of (source_of p) o (left_of p.scanner.read (source_of p) p.scanner.at))) e
 
--- the scanner has read its first token
+-- the scanner has read its first token, or that there is none
 pub record First (source : List ℕ) (o : Option (Placed Lexeme)) (e : Scanner) : Type 0 where
   pub sound : scanned (left_of e.read e.source.now e.at) ≡ true
   pub same : e.source.now ≡ source
   pub all : tokens_of e.source.now o (left_of e.read e.source.now e.at) ≡ listed (scan source)
 
-pub first_reads : (source : List ℕ) (s e : Scanner) (r : Result (Option (Placed Lexeme)) (Placed ScanCause)) → scanned (scan source) ≡ true → scan source ≡ left_of s.read s.source.now s.at →
-    Takes s.source.now (left_of s.read s.source.now s.at) r (left_of e.read e.source.now e.at) → IsOk r
-first_reads source s e r h from t = reads_on s.source.now (left_of s.read s.source.now s.at) r (left_of e.read e.source.now e.at) (sym (ap scanned from) ∙ h) t
+pub record Opened (source : List ℕ) (r : Result (Option (Placed Lexeme)) (Placed ScanCause)) (e : Scanner) : Type 0 where
+  pub scans : IsOk r
+  pub first : (o : Option (Placed Lexeme)) → r ≡ Ok o → First source o e
 
-pub first : (source : List ℕ) (s e : Scanner) (r : Result (Option (Placed Lexeme)) (Placed ScanCause)) (o : Option (Placed Lexeme)) → scanned (scan source) ≡ true → scan source ≡ left_of s.read s.source.now s.at →
-    s.source.now ≡ source → e.source ≡ s.source → Takes s.source.now (left_of s.read s.source.now s.at) r (left_of e.read e.source.now e.at) → r ≡ Ok o → First source o e
-first source s e r o h from q kept t was =
+pub opened : (source : List ℕ) (s e : Scanner) (r : Result (Option (Placed Lexeme)) (Placed ScanCause)) → scanned (scan source) ≡ true →
+    s.source.now ≡ source → s.at ≡ 0 → s.read ≡ 0 → e.source ≡ s.source → Takes s.source.now (left_of s.read s.source.now s.at) r (left_of e.read e.source.now e.at) →
+    Opened source r e
+opened source s e r h q a b kept t =
     let before = left_of s.read s.source.now s.at in
     let after = left_of e.read e.source.now e.at in
-    let n = onward s.source.now before o after (sym (ap scanned from) ∙ h) (subst (λ x. Takes s.source.now before x after) was t) in
+    let from = at_first source s h q a b in
+    let good = sym (ap scanned from) ∙ h in
     let same = ap (λ x. x.now) kept in
-    record { sound = n.sound; same = same ∙ q; all = ap (λ x. tokens_of x o after) same ∙ n.same ∙ sym (ap listed from) }
+    record {
+      scans = reads_on s.source.now before r after good t;
+      first = λ o was.
+          let n = onward s.source.now before o after good (subst (λ x. Takes s.source.now before x after) was t) in
+          record { sound = n.sound; same = same ∙ q; all = ap (λ x. tokens_of x o after) same ∙ n.same ∙ sym (ap listed from) };
+    }

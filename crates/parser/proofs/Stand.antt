@@ -1,5 +1,5 @@
 -- How far a function of the parser has come, step by step, against the parser of the specification.
-use Rattle.std.proofs.Common.{◌≡◌, ℕ, suc, ◌+◌, ◌≤◌, Bool, true, false, cond, ◌||◌, List, [], ◌∷◌, ◌++◌, length, Some, None, Option, sym, refl, ap, ◌∙◌, subst, inl, inr, append_assoc, arith}
+use Rattle.std.proofs.Common.{◌≡◌, ℕ, suc, ◌+◌, ◌≤◌, Bool, true, false, cond, ◌||◌, List, [], ◌∷◌, ◌++◌, length, Some, None, Option, Ok, Err, Result, sym, refl, ap, ◌∙◌, subst, inl, inr, append_assoc, arith}
 use Rattle.std.proofs.lemmas.List.{get_or_push, length_push, append-nil}
 use Rattle.tiny.specs.declared.tokens.Kind.{Kind}
 use Rattle.tiny.specs.declared.tokens.Lexeme.{Lexeme}
@@ -9,7 +9,7 @@ use Rattle.tiny.specs.Scan.{token_in}
 use Rattle.syntax.specs.Shape.{Tree}
 use Rattle.syntax.specs.Shape.Tree.{leaf, under, join}
 use Rattle.syntax.specs.Grammar.{OneOf}
-use Rattle.syntax.specs.Parse.{Part, Symbol, Stack, rules, chosen, optional, begun, fed, run, dropped, pushed, undered, joined, titled, united}
+use Rattle.syntax.specs.Parse.{Part, Tail, Symbol, Stack, further, rules, chosen, optional, begun, fed, run, dropped, pushed, undered, joined, titled, united}
 use Rattle.syntax.specs.Parse.Symbol.{token, part, make}
 use Rattle.syntax.proofs.Telling.{All, pick, is_same}
 use Rattle.syntax.proofs.Steps.{onward, at_own, at_make}
@@ -21,8 +21,9 @@ use Rattle.nodes.specs.Shows.Shows.{leaf_at, under_at, join_at}
 use Rattle.nodes.proofs.Parts.{grown, within}
 use Rattle.parser.specs.declared.parser.Parser.{Parser}
 use Rattle.parser.specs.Rest.{among}
-use Rattle.parser.specs.Ahead.{ahead, source_of, records, Spare, Took, Added}
-use Rattle.parser.specs.Reading.{Read, Same}
+use Rattle.parser.specs.Ahead.{ahead, source_of, records, Took, Added}
+use Rattle.parser.specs.declared.faults.SyntaxCause.{SyntaxCause}
+use Rattle.parser.specs.Reading.{Read, Refused, Same, Went, Continues, Reads}
 use Rattle.parser.proofs.Scanning.{opposed}
 
 -- A tree that was read: record i shows it, or it has as yet no record for its token, a leaf or over one part.
@@ -188,7 +189,7 @@ took {γ = γ} {c = c} {c₁ = c₁} {ss = ss} {ks = ks} {t = t} {c₂ = c₂} m
     (pick (λ j. chosen j (rules m o) ≡ Some (δ j o)) ks o (one_of ks o k.kind) (each o))
     ∙ ap (λ (l : List Symbol). run l (s.trees ++ z) (ahead c₂)) (sym (append_assoc (δ t.what.kind o) γ β)))
 
-one_kind : (k : Kind) (t : Token) → among t.kind (k ∷ []) ≡ true → t.kind ≡ k
+pub one_kind : (k : Kind) (t : Token) → among t.kind (k ∷ []) ≡ true → t.kind ≡ k
 one_kind k t e = go (one_of (k ∷ []) t e)
   where
     go : OneOf (k ∷ []) t → t.kind ≡ k
@@ -242,7 +243,7 @@ capped_by {γ = γ} {c = c} {ss = ss} {i = i} {k = k} {t = t} {c₂ = c₂} h s 
     (λ β z. at_own k undered (γ ++ β) (s.trees ++ z) o (ahead c₂) (one_kind k (token_in (source_of c) t) h.kind) ∙ ap (λ (y : List Tree). run (γ ++ β) (undered o (y ++ z)) (ahead c₂)) u.is)
 
 -- what is made of the trees that were read
-making : {α γ : List Symbol} {c c₁ : Parser} {ss : List Slot} {p r : ℕ} (f : Stack → Stack) (qs : List Slot) →
+pub making : {α γ : List Symbol} {c c₁ : Parser} {ss : List Slot} {p r : ℕ} (f : Stack → Stack) (qs : List Slot) →
     (s : Stand α c (make f ∷ γ) ss c₁ p r) → (us : List Tree) → Held (source_of c) (records c₁) qs us →
     ((z : Stack) → f (s.trees ++ z) ≡ us ++ z) → Stand α c γ qs c₁ p r
 making {γ = γ} {c₁ = c₁} f qs s us h e =
@@ -342,6 +343,9 @@ put_united {γ = γ} {c = c} {c₁ = c₁} {i = i} {j = j} {t = t} k s =
     (λ β z. ap (λ (y : List Tree). run ((make united ∷ γ) ++ β) (y ++ z) (ahead c₁)) (u.is ∙ ap (λ (x : List Tree). u.first ∷ x) (v.is ∙ ap (λ (x : Tree). x ∷ v.later) w.whole))
     ∙ at_make united (γ ++ β) (u.first ∷ under o w.part ∷ (v.later ++ z)) (ahead c₁))
 
+empty : {source : List ℕ} {ns : List Node} {ts : List Tree} → Held source ns [] ts → ts ≡ []
+empty none = refl
+
 -- all is read
 pub done : {α γ : List Symbol} {c c₁ : Parser} {p r i : ℕ} → Stand α c γ (at i ∷ []) c₁ p (suc r) → Read α γ c i c₁
 done {α} {γ} {c} {c₁} s =
@@ -356,10 +360,58 @@ done {α} {γ} {c} {c₁} s =
       paid = omega (arith, s.spent);
       same = s.same;
     }
-  where
-    empty : {source : List ℕ} {ns : List Node} {ts : List Tree} → Held source ns [] ts → ts ≡ []
-    empty none = refl
 
--- there is room for a record that is paid for
-pub pays : {α γ : List Symbol} {c c₁ : Parser} {ss : List Slot} {p r : ℕ} → Stand α c γ ss c₁ (suc p) r → Spare c₁
-pays {c = c} s = omega (arith, s.spent, s.same.room, c.room)
+-- A tail, from where the tree t was read and record j shows it.
+abbrev pub from : Tree → Tail → List Symbol
+from t m = make (λ z. t ∷ z) ∷ further m ∷ []
+
+pub tailed : (m : Tail) (t : Tree) (j : ℕ) (c : Parser) → Shows (source_of c) (records c) j t → Stand (from t m) c (further m ∷ []) (at j ∷ []) c 0 0
+unfolding start
+tailed m t j c h = making (λ z. t ∷ z) (at j ∷ []) (start (from t m) c) (t ∷ []) (and (shown_at h) none) (λ z. refl)
+
+pub went : {m : Tail} {t : Tree} {c c₁ : Parser} {p r i : ℕ} → Stand (from t m) c [] (at i ∷ []) c₁ p r → Went m t c i c₁
+went {m} {t} {c} {c₁} s =
+    let u = top_of s.held in
+    record {
+      tree = u.first;
+      reads = λ β z. sym (at_make (λ y. t ∷ y) (further m ∷ β) z (ahead c)) ∙ s.reads β z ∙ ap (λ (y : List Tree). run β (y ++ z) (ahead c₁)) (u.is ∙ ap (λ (y : List Tree). u.first ∷ y) (empty u.rest));
+      shown = shown_of u.it;
+      more = s.more;
+      grown = s.grew;
+      fewer = omega (arith, s.fewer);
+      paid = omega (arith, s.spent);
+      same = s.same;
+    }
+
+-- what another function read of a tail
+pub goes_on : {α γ : List Symbol} {m : Tail} {c c₁ c₂ : Parser} {ss : List Slot} {p r i j : ℕ} →
+    Continues m j c₁ (Ok i) c₂ → Stand α c (further m ∷ γ) (at j ∷ ss) c₁ p r → Stand α c γ (at i ∷ ss) c₂ p r
+goes_on {α} {γ} {m} {c} {c₁} {c₂} {ss} {i = i} {j = j} k s =
+    let u = top_of s.held in
+    let w = k u.first (subst (λ x. Shows x (records c₁) j u.first) (sym s.same.source) (shown_of u.it)) in
+    record {
+      trees = w.tree ∷ u.later;
+      reads = λ β z. s.reads β z ∙ ap (λ (y : List Tree). run (further m ∷ (γ ++ β)) (y ++ z) (ahead c₁)) u.is ∙ w.reads (γ ++ β) (u.later ++ z);
+      held = and (shown_at (subst (λ x. Shows x (records c₂) i w.tree) s.same.source w.shown)) (subst (λ ns. Held (source_of c) ns ss u.later) (sym w.grown) (all_grown w.more u.rest));
+      more = s.more ++ w.more;
+      grew = w.grown ∙ ap (λ ns. ns ++ w.more) s.grew ∙ append_assoc (records c) s.more w.more;
+      fewer = omega (arith, s.fewer, w.fewer);
+      spent = omega (arith, s.spent, w.paid);
+      same = same_on w.same s.same;
+    }
+
+pub halts_on : {α γ : List Symbol} {m : Tail} {c c₁ c₂ : Parser} {ss : List Slot} {p r j : ℕ} (f : SyntaxCause) →
+    Continues m j c₁ (Err f) c₂ → Stand α c (further m ∷ γ) (at j ∷ ss) c₁ p r → Refused α c c₂
+halts_on {α} {γ} {m} {c} {c₁} {c₂} {j = j} f k s =
+    let u = top_of s.held in
+    let w = k u.first (subst (λ x. Shows x (records c₁) j u.first) (sym s.same.source) (shown_of u.it)) in
+    record {
+      stops = λ β z. s.reads β z ∙ ap (λ (y : List Tree). run (further m ∷ (γ ++ β)) (y ++ z) (ahead c₁)) u.is ∙ w.stops (γ ++ β) (u.later ++ z);
+      same = same_on w.same s.same;
+    }
+
+-- what is read of a tail is the answer
+pub handed_on : {α : List Symbol} {m : Tail} {c c₁ : Parser} {p q j : ℕ} (r : Result ℕ SyntaxCause) (c₂ : Parser) →
+    Continues m j c₁ r c₂ → Stand α c (further m ∷ []) (at j ∷ []) c₁ p (suc q) → Reads α c r c₂
+handed_on (Ok i) c₂ h s = done (goes_on h s)
+handed_on (Err f) c₂ h s = halts_on f h s

@@ -164,12 +164,6 @@ pub gone : {α γ : List Symbol} {c c₁ : Parser} {ss : List Slot} {p r : ℕ} 
     Stand α c (further m ∷ γ) ss c₁ p r → Stand α c γ ss c₂ p r
 gone {γ = γ} {c₁ = c₁} m ks h o (c≡, none) s = skip c≡ (by γ (λ β z. without m ks h o (γ ++ β) z (ahead c₁) none) s)
 
-pub gone_both : {α γ : List Symbol} {c c₁ : Parser} {ss : List Slot} {p r : ℕ} {c₂ c₃ : Parser} (m : Tail) (js ks : List Kind) →
-    ((t : Token) → heads (tail_rules m t) ≡ js ++ ks) → may_lack m ≡ true → (c₂ ≡ c₁) × (stands js (ahead c₁) ≡ false) → (c₃ ≡ c₂) × (stands ks (ahead c₂) ≡ false) →
-    Stand α c (further m ∷ γ) ss c₁ p r → Stand α c γ ss c₃ p r
-gone_both {c₁ = c₁} {c₂ = c₂} m js ks h o (a≡, a) (b≡, b) s =
-    gone m (js ++ ks) h o (b≡ ∙ a≡, lacks_both js ks (ahead c₁) a (ap (λ x. stands ks (ahead x)) (sym a≡) ∙ b)) s
-
 -- where none of the other rules begins, the tokens are read by these
 pub lefted : {α γ : List Symbol} {c c₁ : Parser} {ss : List Slot} {p r : ℕ} {c₂ : Parser} (s s' : Sort) (ps : Token → List Rule) (ks : List Kind) →
     ((t : Token) → sort_rules s' t ≡ sort_rules s t ++ ps t) → ((t : Token) → heads (ps t) ≡ ks) → (c₂ ≡ c₁) × (stands ks (ahead c₁) ≡ false) →

@@ -6,7 +6,6 @@ use Rattle.tiny.specs.declared.faults.ScanCause.{ScanCause}
 use Rattle.tiny.specs.Token.{Token}
 use Rattle.tiny.specs.Scan.{Scanned, counted}
 use Rattle.tiny.specs.Scan.Scanned.{tokens, refused}
-use Rattle.syntax.specs.Shape.{Tree}
 use Rattle.syntax.specs.Grammar.{block}
 use Rattle.syntax.specs.Parse.{expect, run, parse}
 use Rattle.syntax.specs.Parse.Outcome.{accept, refuse}
@@ -20,11 +19,10 @@ use Rattle.parser.specs.declared.faults.SyntaxCause.TheVariants.{Unexpected}
 use Rattle.parser.specs.declared.faults.ParseFault.{ParseFault}
 use Rattle.parser.specs.declared.faults.ParseFault.TheVariants.{Scan, Full, Syntax}
 use Rattle.parser.specs.Rest.{scanned, listed}
-use Rattle.parser.specs.Ahead.{ahead, source_of, place_ahead, stopped}
+use Rattle.parser.specs.Ahead.{ahead, source_of, place_ahead}
 use Rattle.parser.specs.Refusals.{place_of}
 use Rattle.parser.specs.Reading.{Same, Whole}
 use Rattle.parser.specs.Parsing.{Parsed, Answered, Fitting}
-use Rattle.parser.proofs.Scanning.{opposed}
 
 differ : {A : Type 0} {X Y : Type 0} {x : X} {y : Y} → ◌≡◌ {A = Result X Y} (Ok x) (Err y) → A
 differ e = absurd (let z : ◌≡◌ {A = ℕ} 0 1 = cc in omega arith)
@@ -91,8 +89,3 @@ well_parsed {source} {s} {n} {n'} {k} {p} {p'} {i} e h b w n≡ =
       ap items n≡ ∙ r.grown ∙ ap (λ x. items x ++ r.more) b.nodes,
     ))
     (ap capacity n≡ ∙ r.same.room ∙ ap capacity b.nodes)
-
--- tokens are left behind a block
-pub stop_behind : (t : Tree) (ts : List Token) → stopped ts ≡ true → run [] (t ∷ []) ts ≡ refuse ts
-stop_behind t [] e = opposed (sym e)
-stop_behind t (k ∷ ts) e = refl

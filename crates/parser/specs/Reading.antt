@@ -1,13 +1,10 @@
 -- What a function of the parser does.
-use Rattle.std.specs.Prelude.{◌≡◌, ℕ, ◌+◌, ◌<◌, ◌≤◌, cond, List, [], ◌∷◌, ◌++◌, length, Ok, Err, Result}
+use Rattle.std.specs.Prelude.{◌≡◌, ℕ, ◌+◌, ◌<◌, ◌≤◌, List, [], ◌∷◌, ◌++◌, length, Ok, Err, Result}
 use Rattle.syntax.specs.Shape.{Tree}
 use Rattle.tiny.specs.declared.tokens.Kind.{Kind}
-use Rattle.tiny.specs.declared.tokens.Kind.TheVariants.{Name, IndexEnd, Dot, Brace, At, IfWord, WhileWord, ReadWord, WriteWord, NlWord, CallWord}
-use Rattle.tiny.specs.Token.{is}
+use Rattle.tiny.specs.declared.tokens.Kind.TheVariants.{Brace, At, IfWord, WhileWord, ReadWord, WriteWord, NlWord, CallWord}
 use Rattle.syntax.specs.Grammar.{block}
-use Rattle.syntax.specs.Grammar.Sort.{e0}
-use Rattle.syntax.specs.Parse.{Symbol, Stack, run, expect, pushed, dropped}
-use Rattle.syntax.specs.Parse.Symbol.{token}
+use Rattle.syntax.specs.Parse.{Tail, Symbol, Stack, run, expect, further}
 use Rattle.syntax.specs.Parse.Outcome.{refuse}
 use Rattle.nodes.specs.declared.node.Node.{Node}
 use Rattle.nodes.specs.Shows.{Shows}
@@ -45,6 +42,30 @@ Upto α γ p (Err f) p' = Refused α p p'
 abbrev pub Reads : List Symbol → Parser → Result ℕ SyntaxCause → Parser → Type 0
 Reads α = Upto α []
 
+-- It went on from the tree t by a tail, or by nothing: record i shows what the tree has grown to.
+pub record Went (m : Tail) (t : Tree) (p : Parser) (i : ℕ) (p' : Parser) : Type 0 where
+  pub tree : Tree
+  pub reads : (β : List Symbol) (z : Stack) → run (further m ∷ β) (t ∷ z) (ahead p) ≡ run β (tree ∷ z) (ahead p')
+  pub shown : Shows (source_of p) (records p') i tree
+  pub more : List Node
+  pub grown : records p' ≡ records p ++ more
+  pub fewer : length (ahead p') ≤ length (ahead p)
+  pub paid : length (records p') + length (ahead p') ≤ length (records p) + length (ahead p)
+  pub same : Same p p'
+
+-- the parser of the specification stops in the tail where it did
+pub record Halted (m : Tail) (t : Tree) (p p' : Parser) : Type 0 where
+  pub stops : (β : List Symbol) (z : Stack) → run (further m ∷ β) (t ∷ z) (ahead p) ≡ refuse (ahead p')
+  pub same : Same p p'
+
+abbrev pub WentOn : Tail → Tree → Parser → Result ℕ SyntaxCause → Parser → Type 0
+WentOn m t p (Ok i) p' = Went m t p i p'
+WentOn m t p (Err f) p' = Halted m t p p'
+
+-- whatever tree record j shows, it goes on from that
+abbrev pub Continues : Tail → ℕ → Parser → Result ℕ SyntaxCause → Parser → Type 0
+Continues m j p r p' = (t : Tree) → Shows (source_of p) (records p) j t → WentOn m t p r p'
+
 -- a block was read, with nothing behind it
 pub record Whole (p : Parser) (i : ℕ) (p' : Parser) : Type 0 where
   pub read : Read (expect block ∷ []) [] p i p'
@@ -54,10 +75,6 @@ pub record Whole (p : Parser) (i : ℕ) (p' : Parser) : Type 0 where
 abbrev pub Programs : Parser → Result ℕ SyntaxCause → Parser → Type 0
 Programs p (Ok i) p' = Whole p i p'
 Programs p (Err f) p' = (run (expect block ∷ []) [] (ahead p) ≡ refuse (ahead p')) × Same p p'
-
--- what stands behind a postfix operator: a name behind `.`, an expression and `]` behind `[`
-abbrev pub selecting : Kind → List Symbol
-selecting k = cond (is k Dot) (token Name pushed ∷ []) (expect e0 ∷ token IndexEnd dropped ∷ [])
 
 -- what an instruction begins with
 abbrev pub instructing : List Kind

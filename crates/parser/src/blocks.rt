@@ -1,7 +1,8 @@
 // What stands in a block: declarations and instructions.
 ghost use Rattle.std.specs.Prelude.{◌≡◌, [], ◌∷◌};
 ghost use Rattle.syntax.specs.Grammar.{Sort};
-ghost use Rattle.syntax.specs.Parse.{expect};
+ghost use Rattle.syntax.specs.Grammar.Listed.{declarations};
+ghost use Rattle.syntax.specs.Parse.{Tail, expect, further};
 ghost use Rattle.parser.specs.Ahead.{ahead, stands};
 ghost use Rattle.parser.specs.Reading.{Reads, instructing};
 
@@ -35,6 +36,15 @@ impl Parser<'_, '_, '_> {
         if self.instructs() {
             return self.list(Listed::Statements);
         }
+        self.sections()
+    }
+
+    // Declarations and `&&`, with instructions behind it or none.
+    #[cycle(parts)]
+    #[inline(never)]
+    fn sections(&mut self) -> Result<usize, SyntaxCause>
+        ensures { Reads (expect (Sort.list declarations) ∷ further Tail.section_tail ∷ []) self.old result self.new }
+    {
         let left = self.list(Listed::Declarations)?;
         let token = self.expect(&[Kind::DoubleAmpersand])?;
         if self.instructs() {
@@ -46,6 +56,7 @@ impl Parser<'_, '_, '_> {
 
     // A type's name, a procedure, or a variable.
     #[cycle(parts)]
+    #[inline(never)]
     pub fn declaration(&mut self) -> Result<usize, SyntaxCause>
         ensures { Reads (expect Sort.declaration ∷ []) self.old result self.new }
     {
@@ -65,9 +76,21 @@ impl Parser<'_, '_, '_> {
         self.field()
     }
 
-    // An instruction: one over an expression, one with blocks, a call, or a block.
+    // An instruction: a block, or one that begins with a word.
     #[cycle(parts)]
     pub fn statement(&mut self) -> Result<usize, SyntaxCause>
+        ensures { Reads (expect Sort.statement ∷ []) self.old result self.new }
+    {
+        if self.stands(&[Kind::Brace]) {
+            return self.enclosed(Bracket::Braces);
+        }
+        self.action()
+    }
+
+    // An instruction over an expression, a call, or one with blocks.
+    #[cycle(parts)]
+    #[inline(never)]
+    fn action(&mut self) -> Result<usize, SyntaxCause>
         ensures { Reads (expect Sort.statement ∷ []) self.old result self.new }
     {
         if let Some(token) = self.take(&[Kind::At, Kind::ReadWord, Kind::WriteWord]) {

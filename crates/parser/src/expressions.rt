@@ -1,10 +1,13 @@
 // Expressions, a function for each level: from what is done last, `=`, to names and literals.
 ghost use Rattle.std.specs.Prelude.{[], ◌∷◌};
 ghost use Rattle.syntax.specs.Grammar.{Sort};
-ghost use Rattle.syntax.specs.Parse.{Tail, expect, further};
-ghost use Rattle.parser.specs.Reading.{Reads, selecting};
+ghost use Rattle.syntax.specs.Parse.{expect, further};
+ghost use Rattle.syntax.specs.Parse.Tail.{minus?};
+ghost use Rattle.parser.specs.Forms.{tail, operand, selecting};
+ghost use Rattle.parser.specs.Reading.{Reads, Continues};
 
 use crate::faults::SyntaxCause;
+use crate::forms::Tail;
 use crate::parser::Parser;
 use tiny::tokens::Kind;
 
@@ -15,11 +18,7 @@ impl Parser<'_, '_, '_> {
         ensures { Reads (expect Sort.e0 ∷ []) self.old result self.new }
     {
         let left = self.relations()?;
-        if let Some(token) = self.take(&[Kind::Becomes]) {
-            let right = self.assignment()?;
-            return Ok(self.join(token, left, right));
-        }
-        Ok(left)
+        self.further(Tail::Assignment, left)
     }
 
     // Level 1: relations to the left.
@@ -27,19 +26,8 @@ impl Parser<'_, '_, '_> {
     fn relations(&mut self) -> Result<usize, SyntaxCause>
         ensures { Reads (expect Sort.e1 ∷ []) self.old result self.new }
     {
-        let mut left = self.sums()?;
-        while let Some(token) = self.take(&[
-            Kind::Less,
-            Kind::Greater,
-            Kind::LessEqual,
-            Kind::GreaterEqual,
-            Kind::Equal,
-            Kind::NotEqual,
-        ]) {
-            let right = self.sums()?;
-            left = self.join(token, left, right);
-        }
-        Ok(left)
+        let left = self.sums()?;
+        self.further(Tail::Relation, left)
     }
 
     // Level 2: one `-` at most, and then `+` to the left.
@@ -47,24 +35,16 @@ impl Parser<'_, '_, '_> {
     fn sums(&mut self) -> Result<usize, SyntaxCause>
         ensures { Reads (expect Sort.e2 ∷ []) self.old result self.new }
     {
-        let mut left = self.difference()?;
-        while let Some(token) = self.take(&[Kind::Plus]) {
-            let right = self.logic()?;
-            left = self.join(token, left, right);
-        }
-        Ok(left)
+        let left = self.difference()?;
+        self.further(Tail::Sum, left)
     }
 
     #[cycle(levels)]
     fn difference(&mut self) -> Result<usize, SyntaxCause>
-        ensures { Reads (expect Sort.e3 ∷ further Tail.minus? ∷ []) self.old result self.new }
+        ensures { Reads (expect Sort.e3 ∷ further minus? ∷ []) self.old result self.new }
     {
         let left = self.logic()?;
-        if let Some(token) = self.take(&[Kind::Minus]) {
-            let right = self.logic()?;
-            return Ok(self.join(token, left, right));
-        }
-        Ok(left)
+        self.further(Tail::Difference, left)
     }
 
     // Level 3: `and` to the right, one `or`.
@@ -73,15 +53,7 @@ impl Parser<'_, '_, '_> {
         ensures { Reads (expect Sort.e3 ∷ []) self.old result self.new }
     {
         let left = self.products()?;
-        if let Some(token) = self.take(&[Kind::And]) {
-            let right = self.logic()?;
-            return Ok(self.join(token, left, right));
-        }
-        if let Some(token) = self.take(&[Kind::Or]) {
-            let right = self.products()?;
-            return Ok(self.join(token, left, right));
-        }
-        Ok(left)
+        self.further(Tail::Logic, left)
     }
 
     // Level 4: `* / %` to the left.
@@ -89,12 +61,8 @@ impl Parser<'_, '_, '_> {
     fn products(&mut self) -> Result<usize, SyntaxCause>
         ensures { Reads (expect Sort.e4 ∷ []) self.old result self.new }
     {
-        let mut left = self.prefix()?;
-        while let Some(token) = self.take(&[Kind::Times, Kind::Over, Kind::Percent]) {
-            let right = self.prefix()?;
-            left = self.join(token, left, right);
-        }
-        Ok(left)
+        let left = self.prefix()?;
+        self.further(Tail::Product, left)
     }
 
     // Level 5: `-` and `not` before an expression of this level.
@@ -114,26 +82,8 @@ impl Parser<'_, '_, '_> {
     fn postfix(&mut self) -> Result<usize, SyntaxCause>
         ensures { Reads (expect Sort.e6 ∷ []) self.old result self.new }
     {
-        let mut left = self.basic()?;
-        while let Some(token) = self.take(&[Kind::Index, Kind::Dot]) {
-            let right = self.selector(token.what.kind)?;
-            left = self.join(token, left, right);
-        }
-        Ok(left)
-    }
-
-    // What stands behind `.`, a name, or behind `[`, an expression and `]`.
-    #[cycle(levels)]
-    fn selector(&mut self, operator: Kind) -> Result<usize, SyntaxCause>
-        ensures { Reads (selecting operator) self.old result self.new }
-    {
-        if operator == Kind::Dot {
-            let token = self.expect(&[Kind::Name])?;
-            return Ok(self.leaf(token));
-        }
-        let inner = self.assignment()?;
-        self.expect(&[Kind::IndexEnd])?;
-        Ok(inner)
+        let left = self.basic()?;
+        self.further(Tail::Postfix, left)
     }
 
     // A name, a literal, or any expression in parentheses.
@@ -152,6 +102,53 @@ impl Parser<'_, '_, '_> {
         self.expect(&[Kind::Open])?;
         let inner = self.assignment()?;
         self.expect(&[Kind::Close])?;
+        Ok(inner)
+    }
+
+    // Operators of a tail behind an operand, each with the operand on its right.
+    #[cycle(levels)]
+    #[inline(never)]
+    fn further(&mut self, of: Tail, first: usize) -> Result<usize, SyntaxCause>
+        ensures { Continues (tail of) first self.old result self.new }
+    {
+        let mut left = first;
+        while let Some(token) = self.take(of.operators()) {
+            let right = self.operand(of, token.what.kind)?;
+            left = self.join(token, left, right);
+            if !of.repeats() {
+                return Ok(left);
+            }
+        }
+        Ok(left)
+    }
+
+    // What stands on the right of an operator.
+    #[cycle(levels)]
+    fn operand(&mut self, of: Tail, operator: Kind) -> Result<usize, SyntaxCause>
+        ensures { Reads (operand of operator) self.old result self.new }
+    {
+        match of {
+            Tail::Assignment => self.assignment(),
+            Tail::Relation => self.sums(),
+            Tail::Sum | Tail::Difference => self.logic(),
+            Tail::Logic if operator == Kind::And => self.logic(),
+            Tail::Logic => self.products(),
+            Tail::Product => self.prefix(),
+            Tail::Postfix => self.selector(operator),
+        }
+    }
+
+    // What stands behind `.`, a name, or behind `[`, an expression and `]`.
+    #[cycle(levels)]
+    fn selector(&mut self, operator: Kind) -> Result<usize, SyntaxCause>
+        ensures { Reads (selecting operator) self.old result self.new }
+    {
+        if operator == Kind::Dot {
+            let token = self.expect(&[Kind::Name])?;
+            return Ok(self.leaf(token));
+        }
+        let inner = self.assignment()?;
+        self.expect(&[Kind::IndexEnd])?;
         Ok(inner)
     }
 }

@@ -1,6 +1,7 @@
 // Why a source is refused by the parser, or by the scanner before it.
 ghost use Rattle.std.specs.Prelude.{◌≡◌};
 ghost use Rattle.parser.specs.declared.faults.ParseFault.TheVariants.{Scan};
+ghost use Rattle.parser.specs.Refusals.{parse_number, parse_place};
 
 use tiny::faults::{ScanCause, ScanFault};
 use tiny::placed::Placed;
@@ -24,5 +25,29 @@ impl From<Placed<ScanCause>> for ParseFault {
 
     fn from(value: Placed<ScanCause>) -> Self {
         ParseFault::Scan(value)
+    }
+}
+
+impl ParseFault {
+    // The refusal's number in the list of refusals.
+    pub fn number(self) -> u8
+        ensures { result ≡ parse_number self }
+    {
+        match self {
+            ParseFault::Scan(fault) => fault.what.number(),
+            ParseFault::Syntax(_) => 6,
+            ParseFault::Full => 1,
+        }
+    }
+
+    // The place in the source that the refusal names.
+    pub fn place(self) -> usize
+        ensures { result ≡ parse_place self }
+    {
+        match self {
+            ParseFault::Scan(fault) => fault.place,
+            ParseFault::Syntax(fault) => fault.place,
+            ParseFault::Full => 0,
+        }
     }
 }

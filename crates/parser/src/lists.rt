@@ -1,9 +1,9 @@
 // Lists with a separator, and what stands in brackets.
 ghost use Rattle.std.specs.Prelude.{[], ◌∷◌};
 ghost use Rattle.syntax.specs.Grammar.{Sort, item, contents};
-ghost use Rattle.syntax.specs.Parse.{expect};
+ghost use Rattle.syntax.specs.Parse.{Tail, expect};
 ghost use Rattle.parser.specs.Forms.{listed, bracket};
-ghost use Rattle.parser.specs.Reading.{Reads};
+ghost use Rattle.parser.specs.Reading.{Reads, Continues};
 
 use crate::faults::SyntaxCause;
 use crate::forms::{Bracket, Listed};
@@ -16,6 +16,15 @@ impl Parser<'_, '_, '_> {
         ensures { Reads (expect (Sort.list (listed of)) ∷ []) self.old result self.new }
     {
         let left = self.item(of)?;
+        self.more(of, left)
+    }
+
+    // Behind an item: the separator and more of them, or nothing.
+    #[cycle(parts)]
+    #[inline(never)]
+    fn more(&mut self, of: Listed, left: usize) -> Result<usize, SyntaxCause>
+        ensures { Continues (Tail.more? (listed of)) left self.old result self.new }
+    {
         if let Some(token) = self.take(&[of.separator()]) {
             let right = self.list(of)?;
             return Ok(self.join(token, left, right));

@@ -2,7 +2,7 @@
 ghost use Rattle.std.specs.Prelude.{[], ◌∷◌};
 ghost use Rattle.syntax.specs.Grammar.{Sort};
 ghost use Rattle.syntax.specs.Parse.{Tail, expect, further};
-ghost use Rattle.parser.specs.Reading.{Reads, Upto};
+ghost use Rattle.parser.specs.Reading.{Reads, Upto, Continues};
 
 use crate::faults::SyntaxCause;
 use crate::forms::Listed;
@@ -15,7 +15,16 @@ impl Parser<'_, '_, '_> {
     pub fn whole_type(&mut self) -> Result<usize, SyntaxCause>
         ensures { Reads (expect Sort.type ∷ []) self.old result self.new }
     {
-        let mut left = self.element()?;
+        let left = self.element()?;
+        self.lengths(left)
+    }
+
+    // The lengths of arrays behind a type.
+    #[inline(never)]
+    fn lengths(&mut self, first: usize) -> Result<usize, SyntaxCause>
+        ensures { Continues Tail.array? first self.old result self.new }
+    {
+        let mut left = first;
         while let Some(token) = self.take(&[Kind::Index]) {
             let length = self.expect(&[Kind::Literal])?;
             self.expect(&[Kind::IndexEnd])?;
@@ -52,6 +61,7 @@ impl Parser<'_, '_, '_> {
 
     // A formal, by value or by reference.
     #[cycle(parts)]
+    #[inline(never)]
     pub fn formal(&mut self) -> Result<usize, SyntaxCause>
         ensures { Reads (expect Sort.formal ∷ []) self.old result self.new }
     {

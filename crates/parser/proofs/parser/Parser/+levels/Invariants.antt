@@ -1,7 +1,7 @@
 -- The tokens left fall, and without one read the level falls.
 use Rattle.std.proofs.Common.{◌+◌, ◌*◌, [], ◌∷◌, length}
 use Rattle.syntax.specs.Parse.{further}
-use Rattle.syntax.specs.Parse.Tail.{postfix?, factor?, plus?, relation?}
+use Rattle.parser.specs.Forms.{tail}
 use Rattle.parser.specs.Ahead.{ahead}
 use Rattle.parser.proofs.Ways.{Kept}
 use Rattle.parser.proofs.parser.Parser.+levels.Given as goal
@@ -36,26 +36,14 @@ decreases-basic l = 16 * length (ahead l.self.now) + 1
 abbrev pub decreases-selector : goal.decreases-selector
 decreases-selector l = 16 * length (ahead l.self.now) + 10
 
-abbrev pub invariant-relations-loop-token : goal.invariant-relations-loop-token
-invariant-relations-loop-token l = Kept (further relation? ∷ []) l.initial.left l.initial.self l.left l.self
+abbrev pub decreases-operand : goal.decreases-operand
+decreases-operand l = 16 * length (ahead l.self.now) + 11
 
-abbrev pub decreases-relations-loop-token : goal.decreases-relations-loop-token
-decreases-relations-loop-token l = length (ahead l.self)
+abbrev pub decreases-further : goal.decreases-further
+decreases-further l = 16 * length (ahead l.self.now) + 0
 
-abbrev pub invariant-sums-loop-token : goal.invariant-sums-loop-token
-invariant-sums-loop-token l = Kept (further plus? ∷ []) l.initial.left l.initial.self l.left l.self
+abbrev pub invariant-further-loop-token : goal.invariant-further-loop-token
+invariant-further-loop-token l = Kept (further (tail l.of) ∷ []) l.initial.left l.initial.self l.left l.self
 
-abbrev pub decreases-sums-loop-token : goal.decreases-sums-loop-token
-decreases-sums-loop-token l = length (ahead l.self)
-
-abbrev pub invariant-products-loop-token : goal.invariant-products-loop-token
-invariant-products-loop-token l = Kept (further factor? ∷ []) l.initial.left l.initial.self l.left l.self
-
-abbrev pub decreases-products-loop-token : goal.decreases-products-loop-token
-decreases-products-loop-token l = length (ahead l.self)
-
-abbrev pub invariant-postfix-loop-token : goal.invariant-postfix-loop-token
-invariant-postfix-loop-token l = Kept (further postfix? ∷ []) l.initial.left l.initial.self l.left l.self
-
-abbrev pub decreases-postfix-loop-token : goal.decreases-postfix-loop-token
-decreases-postfix-loop-token l = length (ahead l.self)
+abbrev pub decreases-further-loop-token : goal.decreases-further-loop-token
+decreases-further-loop-token l = length (ahead l.self)

@@ -1,39 +1,24 @@
 -- Each answer follows the path of its function.
 use Rattle.std.proofs.Common.{[], ◌∷◌, sym, refl, ◌∙◌}
-use Rattle.tiny.specs.declared.tokens.Kind.TheVariants.{Name, Literal, TypeWord, ProcWord, IfWord, ElseWord, WhileWord, ReadWord, WriteWord, NlWord, CallWord, Index, IndexEnd, Brace, BraceEnd, Ampersand, DoubleAmpersand, At}
+use Rattle.tiny.specs.declared.tokens.Kind.TheVariants.{Name, TypeWord, ProcWord, IfWord, ElseWord, WhileWord, ReadWord, WriteWord, NlWord, CallWord, Brace, BraceEnd, Ampersand, DoubleAmpersand, At}
 use Rattle.syntax.specs.Grammar.Sort.{e0, type, field, formal, declaration, statement, branches, content, list, enclosed}
-use Rattle.syntax.specs.Grammar.Listed.{fields}
+use Rattle.syntax.specs.Grammar.Listed.{declarations, fields}
 use Rattle.syntax.specs.Grammar.Bracket.{braces, formal_parens, actual_parens}
 use Rattle.syntax.specs.Parse.{expect, further, dropped, pushed, undered, joined, titled, word_rules, naming_rules}
 use Rattle.syntax.specs.Parse.Part.{whole, tail}
 use Rattle.syntax.specs.Parse.Tail.{array?, else?, formal_name, section_tail, statements?}
 use Rattle.syntax.specs.Parse.Symbol.{token, make}
 use Rattle.parser.specs.Forms.{listed, bracket}
-use Rattle.parser.proofs.Stand.{start, call, call_on, skip, took, passed, named, capped_by, made_leaf, made_under, put_leaf, put_under, put_join, put_title, put_united, done}
-use Rattle.parser.proofs.Ways.{fails, lacks, broke, gone, turned, nor, nowhere, at_once, entered, lefted, neither, none_of}
-use Rattle.parser.proofs.Levels.{opened, open_list, took_as, lacked_as, separated, unseparated, bracketed, joining, capping, leafing, handed, instructed, declared, instructed_then, nothing_then}
+use Rattle.parser.specs.Ahead.{ahead}
+use Rattle.parser.proofs.Stand.{start, call, call_on, skip, took, passed, named, capped_by, made_leaf, made_under, put_leaf, put_under, put_join, put_title, put_united, done, tailed, went, handed_on}
+use Rattle.parser.proofs.Ways.{fails, lacks, broke, gone, nor, nowhere, at_once, entered, lefted, neither, none_of}
+use Rattle.parser.proofs.Levels.{broke_off, only_block, opened, open_list, took_as, lacked_as, separated, unseparated, bracketed, joining, capping, leafing, handed, instructed, declared, instructed_then, nothing_then}
 use Rattle.parser.proofs.parser.Parser.+parts.Goals as goal
 
 pub list-returns-in_err-left : goal.list-returns-in_err-left
 list-returns-in_err-left t c =
     broke _ _ _ _ _ _ c.from_residual.ensures.1
     (fails c.in_err-left.ensures (open_list (listed c.args.of) _))
-
-pub list-returns-in_err-right : goal.list-returns-in_err-right
-list-returns-in_err-right t c =
-    let l = listed c.args.of in
-    broke _ _ _ _ _ _ c.from_residual-in_err-right.ensures.1
-    (fails c.in_err-right.ensures (separated l c.separator.ensures c.in-Some.ensures (call c.in_ok-left.ensures (open_list l _))))
-
-pub list-returns-in-Some : goal.list-returns-in-Some
-list-returns-in-Some t c =
-    let l = listed c.args.of in
-    done (put_join c.join.ensures (call c.in_ok-right.ensures (separated l c.separator.ensures c.in-Some.ensures (call c.in_ok-left.ensures (open_list l _)))))
-
-pub list-returns : goal.list-returns
-list-returns t c =
-    let l = listed c.args.of in
-    done (unseparated l c.separator.ensures c.in_default.ensures (call c.in_ok-left.ensures (open_list l _)))
 
 pub enclosed-returns-in-Some : goal.enclosed-returns-in-Some
 enclosed-returns-in-Some t c =
@@ -85,31 +70,31 @@ pub content-returns-then-instructs : goal.content-returns-then-instructs
 content-returns-then-instructs t c =
     handed c.list.result c.list.new.self (instructed (sym c.instructs.ensures ∙ c.if-instructs.true) (start (expect content ∷ []) _)) c.list.ensures
 
-pub content-returns-in_err-left : goal.content-returns-in_err-left
-content-returns-in_err-left t c =
+pub sections-returns-in_err-left : goal.sections-returns-in_err-left
+sections-returns-in_err-left t c =
     broke _ _ _ _ _ _ c.from_residual.ensures.1
-    (fails c.in_err-left.ensures (declared (sym c.instructs.ensures ∙ c.if-instructs.false) (start (expect content ∷ []) _)))
+    (fails c.in_err-left.ensures (start (expect (list declarations) ∷ further section_tail ∷ []) _))
 
-pub content-returns-in_err-token : goal.content-returns-in_err-token
-content-returns-in_err-token t c =
+pub sections-returns-in_err-token : goal.sections-returns-in_err-token
+sections-returns-in_err-token t c =
     broke _ _ _ _ _ _ c.from_residual-in_err-token.ensures.1
-    (nowhere (tail section_tail) (DoubleAmpersand ∷ []) (λ t. refl) refl c.in_err-token.ensures (call c.in_ok-left.ensures (declared (sym c.instructs.ensures ∙ c.if-instructs.false) (start (expect content ∷ []) _))))
+    (nowhere (tail section_tail) (DoubleAmpersand ∷ []) (λ t. refl) refl c.in_err-token.ensures (call c.in_ok-left.ensures (start (expect (list declarations) ∷ further section_tail ∷ []) _)))
 
-pub content-returns-in_err-right : goal.content-returns-in_err-right
-content-returns-in_err-right t c =
+pub sections-returns-in_err-right : goal.sections-returns-in_err-right
+sections-returns-in_err-right t c =
     broke _ _ _ _ _ _ c.from_residual-in_err-right.ensures.1
-    (fails c.in_err-right.ensures (instructed_then (sym c.instructs-2.ensures ∙ c.if-instructs-2.true) (made_under (took (tail section_tail) (λ k o. make (undered o) ∷ further statements? ∷ []) (λ o. (refl, tt)) c.in_ok-token.ensures
-    (call c.in_ok-left.ensures (declared (sym c.instructs.ensures ∙ c.if-instructs.false) (start (expect content ∷ []) _)))))))
+    (fails c.in_err-right.ensures (instructed_then (sym c.instructs.ensures ∙ c.if-instructs.true) (made_under (took (tail section_tail) (λ k o. make (undered o) ∷ further statements? ∷ []) (λ o. (refl, tt)) c.in_ok-token.ensures
+    (call c.in_ok-left.ensures (start (expect (list declarations) ∷ further section_tail ∷ []) _))))))
 
-pub content-returns-then-instructs-2 : goal.content-returns-then-instructs-2
-content-returns-then-instructs-2 t c =
-    done (put_united c.join.ensures (call c.in_ok-right.ensures (instructed_then (sym c.instructs-2.ensures ∙ c.if-instructs-2.true) (made_under (took (tail section_tail) (λ k o. make (undered o) ∷ further statements? ∷ []) (λ o. (refl, tt)) c.in_ok-token.ensures
-    (call c.in_ok-left.ensures (declared (sym c.instructs.ensures ∙ c.if-instructs.false) (start (expect content ∷ []) _))))))))
+pub sections-returns-then-instructs : goal.sections-returns-then-instructs
+sections-returns-then-instructs t c =
+    done (put_united c.join.ensures (call c.in_ok-right.ensures (instructed_then (sym c.instructs.ensures ∙ c.if-instructs.true) (made_under (took (tail section_tail) (λ k o. make (undered o) ∷ further statements? ∷ []) (λ o. (refl, tt)) c.in_ok-token.ensures
+    (call c.in_ok-left.ensures (start (expect (list declarations) ∷ further section_tail ∷ []) _)))))))
 
-pub content-returns : goal.content-returns
-content-returns t c =
-    done (put_under c.under.ensures (nothing_then (sym c.instructs-2.ensures ∙ c.if-instructs-2.false) (made_under (took (tail section_tail) (λ k o. make (undered o) ∷ further statements? ∷ []) (λ o. (refl, tt)) c.in_ok-token.ensures
-    (call c.in_ok-left.ensures (declared (sym c.instructs.ensures ∙ c.if-instructs.false) (start (expect content ∷ []) _)))))))
+pub sections-returns : goal.sections-returns
+sections-returns t c =
+    done (put_under c.under.ensures (nothing_then (sym c.instructs.ensures ∙ c.if-instructs.false) (made_under (took (tail section_tail) (λ k o. make (undered o) ∷ further statements? ∷ []) (λ o. (refl, tt)) c.in_ok-token.ensures
+    (call c.in_ok-left.ensures (start (expect (list declarations) ∷ further section_tail ∷ []) _))))))
 
 pub declaration-returns-in-Some : goal.declaration-returns-in-Some
 declaration-returns-in-Some t c =
@@ -182,33 +167,33 @@ formal-returns t c =
     done (put_under c.under-2.ensures (made_under (took (tail formal_name) (λ k o. make (undered o) ∷ []) (λ o. (refl, tt)) c.in_ok-token.ensures
     (skip c.in_default.ensures.0 (call c.in_ok-part.ensures (opened type formal (further formal_name ∷ []) (λ t. refl) _))))))
 
-pub statement-returns-in-Some : goal.statement-returns-in-Some
-statement-returns-in-Some t c =
+pub action-returns-in-Some : goal.action-returns-in-Some
+action-returns-in-Some t c =
     done (put_under c.under.ensures (made_under (call c.in_ok-part.ensures (took (whole statement) (capping e0) (λ o. (refl, (refl, (refl, tt)))) c.in-Some.ensures
     (start (expect statement ∷ []) _)))))
 
-pub statement-returns-in-Some-take : goal.statement-returns-in-Some-take
-statement-returns-in-Some-take t c =
+pub action-returns-in-Some-take : goal.action-returns-in-Some-take
+action-returns-in-Some-take t c =
     done (put_leaf c.leaf.ensures (made_leaf (took (whole statement) leafing (λ o. (refl, tt)) c.in-Some-take.ensures
     (skip c.in_default.ensures.0 (start (expect statement ∷ []) _)))))
 
-pub statement-returns-in-Some-take-2 : goal.statement-returns-in-Some-take-2
-statement-returns-in-Some-take-2 t c =
+pub action-returns-in-Some-take-2 : goal.action-returns-in-Some-take-2
+action-returns-in-Some-take-2 t c =
     done (put_join c.join.ensures (call c.in_ok-right.ensures (put_leaf c.leaf-left.ensures (named c.in_ok-name.ensures (took (whole statement) (λ k o. token Name pushed ∷ expect (enclosed actual_parens) ∷ make (joined o) ∷ []) (λ o. (refl, tt)) c.in-Some-take-2.ensures
     (skip c.in_default-take.ensures.0 (skip c.in_default.ensures.0 (start (expect statement ∷ []) _))))))))
 
-pub statement-returns-in-Some-take-3 : goal.statement-returns-in-Some-take-3
-statement-returns-in-Some-take-3 t c =
+pub action-returns-in-Some-take-3 : goal.action-returns-in-Some-take-3
+action-returns-in-Some-take-3 t c =
     done (put_join c.join-in-Some-take-3.ensures (call c.in_ok-chosen.ensures (call c.in_ok-condition.ensures (took (whole statement) (λ k o. expect e0 ∷ expect branches ∷ make (joined o) ∷ []) (λ o. (refl, tt)) c.in-Some-take-3.ensures
     (skip c.in_default-take-2.ensures.0 (skip c.in_default-take.ensures.0 (skip c.in_default.ensures.0 (start (expect statement ∷ []) _))))))))
 
-pub statement-returns-in-Some-take-4 : goal.statement-returns-in-Some-take-4
-statement-returns-in-Some-take-4 t c =
+pub action-returns-in-Some-take-4 : goal.action-returns-in-Some-take-4
+action-returns-in-Some-take-4 t c =
     done (put_join c.join-in-Some-take-4.ensures (call c.in_ok-body.ensures (call c.in_ok-test.ensures (took (whole statement) (λ k o. expect e0 ∷ expect (enclosed braces) ∷ make (joined o) ∷ []) (λ o. (refl, tt)) c.in-Some-take-4.ensures
     (skip c.in_default-take-3.ensures.0 (skip c.in_default-take-2.ensures.0 (skip c.in_default-take.ensures.0 (skip c.in_default.ensures.0 (start (expect statement ∷ []) _)))))))))
 
-pub statement-returns : goal.statement-returns
-statement-returns t c =
+pub action-returns : goal.action-returns
+action-returns t c =
     let a = neither (At ∷ ReadWord ∷ WriteWord ∷ []) (NlWord ∷ []) c.in_default.ensures c.in_default-take.ensures in
     let b = neither (At ∷ ReadWord ∷ WriteWord ∷ NlWord ∷ []) (CallWord ∷ []) a c.in_default-take-2.ensures in
     let d = neither (At ∷ ReadWord ∷ WriteWord ∷ NlWord ∷ CallWord ∷ []) (IfWord ∷ []) b c.in_default-take-3.ensures in
@@ -218,24 +203,34 @@ statement-returns t c =
     (none_of (At ∷ ReadWord ∷ WriteWord ∷ NlWord ∷ CallWord ∷ IfWord ∷ WhileWord ∷ []) (At ∷ IfWord ∷ WhileWord ∷ ReadWord ∷ WriteWord ∷ NlWord ∷ CallWord ∷ []) (refl, (refl, (refl, (refl, (refl, (refl, (refl, tt))))))) e) (start (expect statement ∷ []) _))
     c.enclosed-2.ensures
 
-pub whole_type-returns-in_err-length : goal.whole_type-returns-in_err-length
-whole_type-returns-in_err-length t c =
-    broke _ _ _ _ _ _ c.from_residual-in_err-length.ensures.1
-    (lacks c.in_err-length.ensures (took (tail array?) (λ k o. token Literal pushed ∷ token IndexEnd dropped ∷ make (joined o) ∷ further array? ∷ []) (λ o. (refl, tt)) c.in-Some.ensures
-    (c.loop-token.invariant.goes _ _ _ _ _ (call_on [] c.in_ok-left.ensures (start (expect type ∷ []) _)))))
+pub content-returns : goal.content-returns
+content-returns t c =
+    handed c.sections.result c.sections.new.self (declared (sym c.instructs.ensures ∙ c.if-instructs.false) (start (expect content ∷ []) _)) c.sections.ensures
 
-pub whole_type-returns-in_err-expect : goal.whole_type-returns-in_err-expect
-whole_type-returns-in_err-expect t c =
-    broke _ _ _ _ _ _ c.from_residual-in_err-expect.ensures.1
-    (lacks c.in_err-expect.ensures (named c.in_ok-length.ensures (took (tail array?) (λ k o. token Literal pushed ∷ token IndexEnd dropped ∷ make (joined o) ∷ further array? ∷ []) (λ o. (refl, tt)) c.in-Some.ensures
-    (c.loop-token.invariant.goes _ _ _ _ _ (call_on [] c.in_ok-left.ensures (start (expect type ∷ []) _))))))
+pub list-returns : goal.list-returns
+list-returns t c = handed_on c.more.result c.more.new.self c.more.ensures (call c.in_ok-left.ensures (open_list (listed c.args.of) _))
 
-pub whole_type-loop-token-preserved : goal.whole_type-loop-token-preserved
-whole_type-loop-token-preserved t c =
-    turned c.join-left.ensures (put_leaf c.leaf-right.ensures (passed c.in_ok-expect.ensures (named c.in_ok-length.ensures (took (tail array?) (λ k o. token Literal pushed ∷ token IndexEnd dropped ∷ make (joined o) ∷ further array? ∷ []) (λ o. (refl, tt)) c.in-Some.ensures
-    (start (further array? ∷ []) _)))))
-    c.loop-token.invariant
+pub more-returns-in_err-right : goal.more-returns-in_err-right
+more-returns-in_err-right t c =
+    let l = listed c.args.of in
+    broke_off _ _ _ _ _ _ c.from_residual.ensures.1
+    (λ u h. fails c.in_err-right.ensures (separated l c.separator.ensures c.in-Some.ensures (tailed _ u _ _ h)))
+
+pub more-returns-in-Some : goal.more-returns-in-Some
+more-returns-in-Some t c =
+    let l = listed c.args.of in
+    λ u h. went (put_join c.join.ensures (call c.in_ok-right.ensures (separated l c.separator.ensures c.in-Some.ensures (tailed _ u _ _ h))))
+
+pub more-returns : goal.more-returns
+more-returns t c =
+    let l = listed c.args.of in
+    λ u h. went (unseparated l c.separator.ensures c.in_default.ensures (tailed _ u _ _ h))
 
 pub whole_type-returns : goal.whole_type-returns
-whole_type-returns t c =
-    done (gone array? (Index ∷ []) (λ t. refl) refl c.in_default.ensures (c.loop-token.invariant.goes _ _ _ _ _ (call_on [] c.in_ok-left.ensures (start (expect type ∷ []) _))))
+whole_type-returns t c = handed_on c.lengths.result c.lengths.new.self c.lengths.ensures (call_on [] c.in_ok-left.ensures (start (expect type ∷ []) _))
+
+pub statement-returns-then-stands : goal.statement-returns-then-stands
+statement-returns-then-stands t c =
+    handed c.enclosed.result c.enclosed.new.self
+    (lefted (enclosed braces) statement word_rules (At ∷ IfWord ∷ WhileWord ∷ ReadWord ∷ WriteWord ∷ NlWord ∷ CallWord ∷ []) (λ t. refl) (λ t. refl)
+    (refl, only_block (ahead c.args.self.now) (sym c.stands.ensures ∙ c.if-stands.true)) (start (expect statement ∷ []) _)) c.enclosed.ensures
