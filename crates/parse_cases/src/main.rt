@@ -3,7 +3,6 @@
 #![tactic(auto)]
 
 use nodes::node::Node;
-use parser::faults::ParseFault;
 use parser::parse::parse;
 use std::alloc::{AllocError, Global};
 use std::{fs, io};
@@ -14,9 +13,7 @@ fn ask(source: &[u8], cells: &mut [Node]) -> Answer {
     let mut nodes = Table::over(cells);
     match parse(source, &mut nodes) {
         Ok(_root) => Answer::Tree,
-        Err(ParseFault::Scan(fault)) => Answer::Refused(fault.what.number(), fault.place),
-        Err(ParseFault::Syntax(fault)) => Answer::Refused(6, fault.place),
-        Err(ParseFault::Full) => Answer::Refused(1, 0),
+        Err(fault) => Answer::Refused(fault.number(), fault.place()),
     }
 }
 

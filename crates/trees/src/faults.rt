@@ -35,9 +35,7 @@ impl TreeFault {
         ensures { result ≡ tree_number self }
     {
         match self {
-            TreeFault::Parse(ParseFault::Scan(fault)) => fault.what.number(),
-            TreeFault::Parse(ParseFault::Syntax(_)) => 6,
-            TreeFault::Parse(ParseFault::Full) => 1,
+            TreeFault::Parse(fault) => fault.number(),
             TreeFault::Depth(fault) => fault.what.number(),
         }
     }
@@ -47,9 +45,7 @@ impl TreeFault {
         ensures { result ≡ tree_place self }
     {
         match self {
-            TreeFault::Parse(ParseFault::Scan(fault)) => fault.place,
-            TreeFault::Parse(ParseFault::Syntax(fault)) => fault.place,
-            TreeFault::Parse(ParseFault::Full) => 0,
+            TreeFault::Parse(fault) => fault.place(),
             TreeFault::Depth(fault) => fault.place,
         }
     }
