@@ -1,3 +1,4 @@
+pub mod Alike
 pub mod Scanning
 pub mod Stand
 pub mod Ways

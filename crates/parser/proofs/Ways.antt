@@ -1,6 +1,5 @@
 -- What the parser of the specification does at tokens of some kinds, and where there are none of them.
-use Rattle.std.proofs.Common.{◌≡◌, ℕ, suc, ◌+◌, ◌≤◌, Bool, true, false, cond, ◌||◌, List, [], ◌∷◌, ◌++◌, length, IsErrAnd, Some, None, Ok, Err, Option, Result, sym, refl, ap, ◌∙◌, subst, append_assoc, arith}
-use Rattle.std.proofs.lemmas.List.{length_push}
+use Rattle.std.proofs.Common.{◌≡◌, ℕ, suc, ◌≤◌, Bool, true, false, cond, ◌||◌, List, [], ◌∷◌, ◌++◌, length, IsErrAnd, Some, None, Ok, Err, Option, Result, sym, refl, ap, ◌∙◌, subst, append_assoc, arith}
 use Rattle.std.proofs.lemmas.Bool.{or_parts}
 use Rattle.tiny.specs.declared.tokens.Kind.{Kind}
 use Rattle.tiny.specs.declared.tokens.Lexeme.{Lexeme}
@@ -16,17 +15,14 @@ use Rattle.syntax.specs.Parse.Outcome.{refuse}
 use Rattle.syntax.proofs.Telling.{All, is_same}
 use Rattle.syntax.proofs.Steps.{onward, settled, heads, begun_behind, chosen_right, Begins}
 use Rattle.syntax.proofs.Steps.Begins.{begins}
-use Rattle.tables.specs.declared.table.Table.{Table}
-use Rattle.nodes.specs.declared.node.Node.{Node}
 use Rattle.nodes.specs.declared.node.Node.TheVariants.{Join}
-use Rattle.tables.specs.Items.{items, capacity, Pushed}
-use Rattle.parser.specs.declared.cursor.Cursor.{Cursor}
-use Rattle.parser.specs.declared.faults.ParseFault.{ParseFault}
+use Rattle.parser.specs.declared.parser.Parser.{Parser}
+use Rattle.parser.specs.declared.faults.SyntaxCause.{SyntaxCause}
 use Rattle.parser.specs.Rest.{among}
-use Rattle.parser.specs.Ahead.{ahead, source_of, stands, refusal, Took}
+use Rattle.parser.specs.Ahead.{ahead, source_of, stands, Took, Added}
 use Rattle.parser.specs.Reading.{Refused, Upto}
 use Rattle.parser.proofs.Scanning.{opposed}
-use Rattle.parser.proofs.Stand.{Stand, Slot, skip, by, then, took, made_leaf, put_join}
+use Rattle.parser.proofs.Stand.{Stand, Slot, same_on, skip, by, then, took, made_leaf, put_join}
 use Rattle.parser.proofs.Stand.Slot.{at, bare}
 
 -- fewer kinds to be one of
@@ -128,85 +124,69 @@ inside k o α z (t ∷ ts) e =
     γ = make (undered o) ∷ token (closing k) dropped ∷ []
 
 -- Refusals. What is refused further on is refused as a whole.
-pub fails_on : {α δ : List Symbol} {c c₁ c₂ : Cursor} {n n₁ n₂ : Table Node} {ss : List Slot} {p r : ℕ} {f : ParseFault} (γ : List Symbol) →
-    Refused δ c₁ n₁ f c₂ n₂ → Stand α c n (δ ++ γ) ss c₁ n₁ p r → Refused α c n f c₂ n₂
+pub fails_on : {α δ : List Symbol} {c c₁ c₂ : Parser} {ss : List Slot} {p r : ℕ} (γ : List Symbol) →
+    Refused δ c₁ c₂ → Stand α c (δ ++ γ) ss c₁ p r → Refused α c c₂
 fails_on {δ = δ} {c₁ = c₁} {c₂ = c₂} γ h s = record {
   stops = λ β z. s.reads β z ∙ ap (λ (l : List Symbol). run l (s.trees ++ z) (ahead c₁)) (append_assoc δ γ β) ∙ h.stops (γ ++ β) (s.trees ++ z);
-  fault = h.fault ∙ ap (λ x. refusal x (ahead c₂)) s.source;
-  same = h.same ∙ s.same;
+  same = same_on h.same s.same;
 }
 
-pub fails : {α γ : List Symbol} {x : Symbol} {c c₁ c₂ : Cursor} {n n₁ n₂ : Table Node} {ss : List Slot} {p r : ℕ} {f : ParseFault} →
-    Refused (x ∷ []) c₁ n₁ f c₂ n₂ → Stand α c n (x ∷ γ) ss c₁ n₁ p r → Refused α c n f c₂ n₂
+pub fails : {α γ : List Symbol} {x : Symbol} {c c₁ c₂ : Parser} {ss : List Slot} {p r : ℕ} →
+    Refused (x ∷ []) c₁ c₂ → Stand α c (x ∷ γ) ss c₁ p r → Refused α c c₂
 fails {γ = γ} h s = fails_on γ h s
 
+-- it stops here
+halts : {α γ : List Symbol} {c c₁ c₂ : Parser} {ss : List Slot} {p r : ℕ} → c₂ ≡ c₁ →
+    ((β : List Symbol) (z : Stack) → run (γ ++ β) z (ahead c₁) ≡ refuse (ahead c₁)) → Stand α c γ ss c₁ p r → Refused α c c₂
+halts {α} {c = c} e h s =
+    subst (λ x. Refused α c x) (sym e) (record { stops = λ β z. s.reads β z ∙ h β (s.trees ++ z); same = s.same })
+
 -- no token of the kind that is expected
-pub lacks : {α γ : List Symbol} {k : Kind} {g : Token → Stack → Stack} {c c₁ c₂ : Cursor} {n n₁ : Table Node} {ss : List Slot} {p r : ℕ} {f : ParseFault} →
-    (c₂ ≡ c₁) × (stands (k ∷ []) (ahead c₁) ≡ false) × (f ≡ refusal (source_of c₁) (ahead c₁)) →
-    Stand α c n (token k g ∷ γ) ss c₁ n₁ p r → Refused α c n f c₂ n₁
-lacks {γ = γ} {k} {g} {c₁ = c₁} {f = f} h s =
-    let e = ap ahead h.0 in
-    record {
-      stops = λ β z. s.reads β z ∙ no_token k g (γ ++ β) (s.trees ++ z) (ahead c₁) h.1 ∙ ap refuse (sym e);
-      fault = h.2 ∙ ap (λ x. refusal x (ahead c₁)) s.source ∙ ap (refusal _) (sym e);
-      same = s.same;
-    }
+pub lacks : {α γ : List Symbol} {k : Kind} {g : Token → Stack → Stack} {c c₁ c₂ : Parser} {ss : List Slot} {p r : ℕ} →
+    (c₂ ≡ c₁) × (stands (k ∷ []) (ahead c₁) ≡ false) → Stand α c (token k g ∷ γ) ss c₁ p r → Refused α c c₂
+lacks {γ = γ} {k} {g} {c₁ = c₁} (e, none) s = halts e (λ β z. no_token k g (γ ++ β) z (ahead c₁) none) s
 
 -- nothing that the part may begin with
-pub lacks_part : {α γ : List Symbol} {c c₁ c₂ : Cursor} {n n₁ : Table Node} {ss : List Slot} {p r : ℕ} {f : ParseFault} (m : Part) (ks : List Kind) →
-    ((t : Token) → heads (rules m t) ≡ ks) → optional m ≡ false → c₂ ≡ c₁ → stands ks (ahead c₁) ≡ false → f ≡ refusal (source_of c₁) (ahead c₁) →
-    Stand α c n (part m ∷ γ) ss c₁ n₁ p r → Refused α c n f c₂ n₁
-lacks_part {γ = γ} {c₁ = c₁} m ks h o c≡ none f≡ s =
-    let e = ap ahead c≡ in
-    record {
-      stops = λ β z. s.reads β z ∙ missing m ks h o (γ ++ β) (s.trees ++ z) (ahead c₁) none ∙ ap refuse (sym e);
-      fault = f≡ ∙ ap (λ x. refusal x (ahead c₁)) s.source ∙ ap (refusal _) (sym e);
-      same = s.same;
-    }
+pub nowhere : {α γ : List Symbol} {c c₁ c₂ : Parser} {ss : List Slot} {p r : ℕ} (m : Part) (ks : List Kind) →
+    ((t : Token) → heads (rules m t) ≡ ks) → optional m ≡ false → (c₂ ≡ c₁) × (stands ks (ahead c₁) ≡ false) →
+    Stand α c (part m ∷ γ) ss c₁ p r → Refused α c c₂
+nowhere {γ = γ} {c₁ = c₁} m ks h o (e, none) s = halts e (λ β z. missing m ks h o (γ ++ β) z (ahead c₁) none) s
 
 -- what a `?` hands on
-pub broke : (α γ : List Symbol) (c : Cursor) (n : Table Node) (c' : Cursor) (n' : Table Node) (r : Result ℕ ParseFault) (f : ParseFault) →
-    IsErrAnd r (λ y. y ≡ f) → Refused α c n f c' n' → Upto α γ c n r c' n'
-broke α γ c n c' n' (Ok i) f e h = absurd e
-broke α γ c n c' n' (Err g) f e h = subst (λ x. Refused α c n x c' n') (sym e) h
+pub broke : (α γ : List Symbol) (c c' : Parser) (r : Result ℕ SyntaxCause) (f : SyntaxCause) →
+    IsErrAnd r (λ y. y ≡ f) → Refused α c c' → Upto α γ c r c'
+broke α γ c c' (Ok i) f e h = absurd e
+broke α γ c c' (Err g) f e h = h
 
 -- a tail is not there
-pub gone : {α γ : List Symbol} {c c₁ : Cursor} {n n₁ : Table Node} {ss : List Slot} {p r : ℕ} {c₂ : Cursor} (m : Tail) (ks : List Kind) →
+pub gone : {α γ : List Symbol} {c c₁ : Parser} {ss : List Slot} {p r : ℕ} {c₂ : Parser} (m : Tail) (ks : List Kind) →
     ((t : Token) → heads (tail_rules m t) ≡ ks) → may_lack m ≡ true → (c₂ ≡ c₁) × (stands ks (ahead c₁) ≡ false) →
-    Stand α c n (further m ∷ γ) ss c₁ n₁ p r → Stand α c n γ ss c₂ n₁ p r
+    Stand α c (further m ∷ γ) ss c₁ p r → Stand α c γ ss c₂ p r
 gone {γ = γ} {c₁ = c₁} m ks h o (c≡, none) s = skip c≡ (by γ (λ β z. without m ks h o (γ ++ β) z (ahead c₁) none) s)
 
-pub gone_both : {α γ : List Symbol} {c c₁ : Cursor} {n n₁ : Table Node} {ss : List Slot} {p r : ℕ} {c₂ c₃ : Cursor} (m : Tail) (js ks : List Kind) →
-    ((t : Token) → heads (tail_rules m t) ≡ js ++ ks) → may_lack m ≡ true → (c₂ ≡ c₁) × (stands js (ahead c₁) ≡ false) → (c₃ ≡ c₂) × (stands ks (ahead c₂) ≡ false) →
-    Stand α c n (further m ∷ γ) ss c₁ n₁ p r → Stand α c n γ ss c₃ n₁ p r
-gone_both {c₁ = c₁} {c₂ = c₂} m js ks h o (a≡, a) (b≡, b) s =
-    gone m (js ++ ks) h o (b≡ ∙ a≡, lacks_both js ks (ahead c₁) a (ap (λ x. stands ks (ahead x)) (sym a≡) ∙ b)) s
-
 -- where none of the other rules begins, the tokens are read by these
-pub lefted : {α γ : List Symbol} {c c₁ : Cursor} {n n₁ : Table Node} {ss : List Slot} {p r : ℕ} {c₂ : Cursor} (s s' : Sort) (ps : Token → List Rule) (ks : List Kind) →
+pub lefted : {α γ : List Symbol} {c c₁ : Parser} {ss : List Slot} {p r : ℕ} {c₂ : Parser} (s s' : Sort) (ps : Token → List Rule) (ks : List Kind) →
     ((t : Token) → sort_rules s' t ≡ sort_rules s t ++ ps t) → ((t : Token) → heads (ps t) ≡ ks) → (c₂ ≡ c₁) × (stands ks (ahead c₁) ≡ false) →
-    Stand α c n (expect s' ∷ γ) ss c₁ n₁ p r → Stand α c n (expect s ∷ γ) ss c₂ n₁ p r
+    Stand α c (expect s' ∷ γ) ss c₁ p r → Stand α c (expect s ∷ γ) ss c₂ p r
 lefted {γ = γ} {c₁ = c₁} s s' ps ks r h (c≡, none) a = skip c≡ (by (expect s ∷ γ) (λ β z. only_left s s' ps ks r h (γ ++ β) z (ahead c₁) none) a)
 
 -- of several kinds none stands there
-pub neither : {c c₁ c₂ : Cursor} (js ks : List Kind) → (c₁ ≡ c) × (stands js (ahead c) ≡ false) → (c₂ ≡ c₁) × (stands ks (ahead c₁) ≡ false) →
+pub neither : {c c₁ c₂ : Parser} (js ks : List Kind) → (c₁ ≡ c) × (stands js (ahead c) ≡ false) → (c₂ ≡ c₁) × (stands ks (ahead c₁) ≡ false) →
     (c₂ ≡ c) × (stands (js ++ ks) (ahead c) ≡ false)
 neither {c} js ks (a≡, a) (b≡, b) = (b≡ ∙ a≡, lacks_both js ks (ahead c) a (ap (λ x. stands ks (ahead x)) (sym a≡) ∙ b))
 
-pub none_of : {c c₁ : Cursor} (js ks : List Kind) → All (λ j. among j js ≡ true) ks → (c₁ ≡ c) × (stands js (ahead c) ≡ false) → (c₁ ≡ c) × (stands ks (ahead c) ≡ false)
+pub none_of : {c c₁ : Parser} (js ks : List Kind) → All (λ j. among j js ≡ true) ks → (c₁ ≡ c) × (stands js (ahead c) ≡ false) → (c₁ ≡ c) × (stands ks (ahead c) ≡ false)
 none_of {c} js ks a (c≡, e) = (c≡, lacks_fewer js ks (ahead c) a e)
 
 -- the last of the kinds that a part may begin with is not there, nor were the others
-pub nor : {α γ : List Symbol} {c c₁ c₂ c₃ : Cursor} {n n₁ : Table Node} {ss : List Slot} {p r : ℕ} {f : ParseFault} (m : Part) (js ks hs : List Kind) →
+pub nor : {α γ : List Symbol} {c c₁ c₂ c₃ : Parser} {ss : List Slot} {p r : ℕ} (m : Part) (js ks hs : List Kind) →
     ((t : Token) → heads (rules m t) ≡ hs) → All (λ j. among j (js ++ ks) ≡ true) hs → optional m ≡ false → (c₂ ≡ c₁) × (stands js (ahead c₁) ≡ false) →
-    (c₃ ≡ c₂) × (stands ks (ahead c₂) ≡ false) × (f ≡ refusal (source_of c₂) (ahead c₂)) → Stand α c n (part m ∷ γ) ss c₁ n₁ p r → Refused α c n f c₃ n₁
-nor {c₁ = c₁} {c₂ = c₂} {c₃ = c₃} {f = f} m js ks hs h a o x (b≡, b, f≡) s =
-    let (d≡, d) = none_of (js ++ ks) hs a (neither js ks x (b≡, b)) in
-    lacks_part m hs h o d≡ d (f≡ ∙ ap (λ y. refusal (source_of y) (ahead y)) x.0) s
+    (c₃ ≡ c₂) × (stands ks (ahead c₂) ≡ false) → Stand α c (part m ∷ γ) ss c₁ p r → Refused α c c₃
+nor m js ks hs h a o x y s = nowhere m hs h o (none_of (js ++ ks) hs a (neither js ks x y)) s
 
 -- behind an opening bracket
-pub at_once : {α γ : List Symbol} {c c₁ : Cursor} {n n₁ : Table Node} {ss : List Slot} {p r : ℕ} {t : Placed Lexeme} {c₂ : Cursor} {o : Token} (k : Bracket) →
-    Took (closing k ∷ []) c₁ t c₂ → Stand α c n (part (rest k o) ∷ γ) ss c₁ n₁ p r → Stand α c n γ (bare o ∷ ss) c₂ n₁ (suc p) (suc r)
+pub at_once : {α γ : List Symbol} {c c₁ : Parser} {ss : List Slot} {p r : ℕ} {t : Placed Lexeme} {c₂ : Parser} {o : Token} (k : Bracket) →
+    Took (closing k ∷ []) c₁ t c₂ → Stand α c (part (rest k o) ∷ γ) ss c₁ p r → Stand α c γ (bare o ∷ ss) c₂ (suc p) (suc r)
 at_once {o = o} k x s = made_leaf (took (rest k o) (λ j u. make (pushed o) ∷ []) (λ u. (first k u, tt)) x s)
   where
     first : (k : Bracket) (u : Token) → chosen (closing k) (rules (rest k o) u) ≡ Some (make (pushed o) ∷ [])
@@ -214,50 +194,38 @@ at_once {o = o} k x s = made_leaf (took (rest k o) (λ j u. make (pushed o) ∷ 
     first formal_parens u = refl
     first actual_parens u = refl
 
-pub entered : {α γ : List Symbol} {c c₁ : Cursor} {n n₁ : Table Node} {ss : List Slot} {p r : ℕ} {c₂ : Cursor} {o : Token} (k : Bracket) →
-    (c₂ ≡ c₁) × (stands (closing k ∷ []) (ahead c₁) ≡ false) → Stand α c n (part (rest k o) ∷ γ) ss c₁ n₁ p r →
-    Stand α c n (expect (contents k) ∷ make (undered o) ∷ token (closing k) dropped ∷ γ) ss c₂ n₁ p r
+pub entered : {α γ : List Symbol} {c c₁ : Parser} {ss : List Slot} {p r : ℕ} {c₂ : Parser} {o : Token} (k : Bracket) →
+    (c₂ ≡ c₁) × (stands (closing k ∷ []) (ahead c₁) ≡ false) → Stand α c (part (rest k o) ∷ γ) ss c₁ p r →
+    Stand α c (expect (contents k) ∷ make (undered o) ∷ token (closing k) dropped ∷ γ) ss c₂ p r
 entered {γ = γ} {c₁ = c₁} {o = o} k (c≡, none) s =
     skip c≡ (by (expect (contents k) ∷ make (undered o) ∷ token (closing k) dropped ∷ γ) (λ β z. inside k o (γ ++ β) z (ahead c₁) none) s)
 
--- nothing begins the part
-pub nowhere : {α γ : List Symbol} {c c₁ c₂ : Cursor} {n n₁ : Table Node} {ss : List Slot} {p r : ℕ} {f : ParseFault} (m : Part) (ks : List Kind) →
-    ((t : Token) → heads (rules m t) ≡ ks) → optional m ≡ false → (c₂ ≡ c₁) × (stands ks (ahead c₁) ≡ false) × (f ≡ refusal (source_of c₁) (ahead c₁)) →
-    Stand α c n (part m ∷ γ) ss c₁ n₁ p r → Refused α c n f c₂ n₁
-nowhere m ks h o (c≡, none, f≡) s = lacks_part m ks h o c≡ none f≡ s
-
 -- Over a loop: what was read before it goes on to what it has read.
-pub record Kept (γ : List Symbol) (i : ℕ) (c : Cursor) (n : Table Node) (j : ℕ) (c' : Cursor) (n' : Table Node) : Type 0 where
-  pub goes : (α : List Symbol) (c₀ : Cursor) (n₀ : Table Node) (ss : List Slot) (p r : ℕ) →
-      Stand α c₀ n₀ γ (at i ∷ ss) c n p r → Stand α c₀ n₀ γ (at j ∷ ss) c' n' p r
-  pub shrunk : length (ahead c') ≤ length (ahead c)
-  pub enough : length (items n') + length (ahead c') ≤ length (items n) + length (ahead c)
-  pub same : capacity n' ≡ capacity n
+pub record Kept (γ : List Symbol) (i : ℕ) (c : Parser) (j : ℕ) (c' : Parser) : Type 0 where
+  pub goes : (α : List Symbol) (c₀ : Parser) (ss : List Slot) (p r : ℕ) → Stand α c₀ γ (at i ∷ ss) c p r → Stand α c₀ γ (at j ∷ ss) c' p r
+  pub fewer : length (ahead c') ≤ length (ahead c)
 
-less : {α γ : List Symbol} {c c₁ : Cursor} {n n₁ : Table Node} {ss : List Slot} {p r : ℕ} (q s : ℕ) → q ≤ p → s ≤ r →
-    Stand α c n γ ss c₁ n₁ p r → Stand α c n γ ss c₁ n₁ q s
+less : {α γ : List Symbol} {c c₁ : Parser} {ss : List Slot} {p r : ℕ} (q s : ℕ) → q ≤ p → s ≤ r →
+    Stand α c γ ss c₁ p r → Stand α c γ ss c₁ q s
 less q s a b h = record {
   trees = h.trees;
   reads = h.reads;
   held = h.held;
   more = h.more;
   grew = h.grew;
-  source = h.source;
   fewer = omega (arith, h.fewer);
-  room = omega (arith, h.room);
+  spent = omega (arith, h.spent);
   same = h.same;
 }
 
 -- a turn that joins what it reads
-pub turned : {γ : List Symbol} {i j k m : ℕ} {c c₁ c₂ : Cursor} {n n₁ n₂ n₃ : Table Node} {p r : ℕ} {t : Placed Lexeme} →
-    Pushed n₂ (Join t j m) k n₃ → Stand γ c₁ n₁ (make (joined (token_in (source_of c₁) t)) ∷ γ) (at m ∷ []) c₂ n₂ (suc p) r → Kept γ i c n j c₁ n₁ →
-    Kept γ i c n k c₂ n₃
-turned {γ} {i} {j} {k} {m} {c} {c₁} {c₂} {n} {n₁} {n₂} {n₃} {p} {r} {t} b u h = record {
-  goes = λ α c₀ n₀ ss q s a.
-      let a₁ = h.goes α c₀ n₀ ss q s a in
+pub turned : {γ : List Symbol} {i j k m : ℕ} {c c₁ c₂ c₃ : Parser} {p r : ℕ} {t : Placed Lexeme} →
+    Added c₂ (Join t j m) k c₃ → Stand γ c₁ (make (joined (token_in (source_of c₁) t)) ∷ γ) (at m ∷ []) c₂ (suc p) r → Kept γ i c j c₁ →
+    Kept γ i c k c₃
+turned {γ} {i} {j} {k} {m} {c} {c₁} {c₂} {c₃} {p} {r} {t} b u h = record {
+  goes = λ α c₀ ss q s a.
+      let a₁ = h.goes α c₀ ss q s a in
       put_join b
-      (subst (λ x. Stand α c₀ n₀ (make (joined (token_in x t)) ∷ γ) (at m ∷ at j ∷ ss) c₂ n₂ (suc q) s) a₁.source (less (suc q) s (omega arith) (omega arith) (then u a₁)));
-  shrunk = omega (arith, h.shrunk, u.fewer);
-  enough = omega (arith, h.enough, u.room, ap length b.added, length_push (items n₂) (Join t j m));
-  same = b.kept ∙ u.same ∙ h.same;
+      (subst (λ x. Stand α c₀ (make (joined (token_in x t)) ∷ γ) (at m ∷ at j ∷ ss) c₂ (suc q) s) a₁.same.source (less (suc q) s (omega arith) (omega arith) (then u a₁)));
+  fewer = omega (arith, h.fewer, u.fewer, ap length b.still);
 }

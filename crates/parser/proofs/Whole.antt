@@ -1,5 +1,5 @@
 -- A whole source.
-use Rattle.std.proofs.Common.{◌≡◌, ℕ, ◌-◌, ◌<◌, ◌≤◌, true, List, [], ◌∷◌, length, Ok, Err, Result, sym, refl, ap, ◌∙◌, subst, arith, length-take}
+use Rattle.std.proofs.Common.{◌≡◌, ℕ, ◌-◌, ◌<◌, ◌≤◌, true, List, [], ◌∷◌, ◌++◌, length, unwrap_or, Ok, Err, Result, sym, refl, ap, ◌∙◌, subst, arith, length-take}
 use Rattle.std.proofs.lemmas.Bool.{lt-ltb, le-ltb}
 use Rattle.tiny.specs.declared.placed.Placed.{Placed}
 use Rattle.tiny.specs.declared.faults.ScanCause.{ScanCause}
@@ -13,14 +13,16 @@ use Rattle.tables.specs.declared.table.Table.{Table}
 use Rattle.nodes.specs.declared.node.Node.{Node}
 use Rattle.tables.specs.Items.{items, capacity}
 use Rattle.nodes.specs.Shows.{Shows}
-use Rattle.parser.specs.declared.cursor.Cursor.{Cursor}
+use Rattle.parser.specs.declared.parser.Parser.{Parser}
+use Rattle.parser.specs.declared.faults.SyntaxCause.{SyntaxCause}
+use Rattle.parser.specs.declared.faults.SyntaxCause.TheVariants.{Unexpected}
 use Rattle.parser.specs.declared.faults.ParseFault.{ParseFault}
-use Rattle.parser.specs.declared.faults.ParseFault.TheVariants.{Scan, Full}
+use Rattle.parser.specs.declared.faults.ParseFault.TheVariants.{Scan, Full, Syntax}
 use Rattle.parser.specs.Rest.{scanned, listed}
-use Rattle.parser.specs.Ahead.{ahead, source_of, refusal, stopped}
-use Rattle.parser.specs.Reading.{Read, Refused}
+use Rattle.parser.specs.Ahead.{ahead, source_of, place_ahead}
+use Rattle.parser.specs.Refusals.{place_of}
+use Rattle.parser.specs.Reading.{Same, Whole}
 use Rattle.parser.specs.Parsing.{Parsed, Answered, Fitting}
-use Rattle.parser.proofs.Scanning.{opposed}
 
 differ : {A : Type 0} {X Y : Type 0} {x : X} {y : Y} → ◌≡◌ {A = Result X Y} (Ok x) (Err y) → A
 differ e = absurd (let z : ◌≡◌ {A = ℕ} 0 1 = cc in omega arith)
@@ -53,30 +55,37 @@ fits source (tokens ts) n k r n' e h a c≡ =
     subst (λ b. Fitting b source (parse ts) n r n') (sym (le-ltb (capacity n - length (items n)) (length ts) (omega arith))) (a, c≡)
 fits source (refused c p) n k r n' e h a c≡ = differ e
 
-pub not_parsed : (source : List ℕ) (s : Scanned) (n : Table Node) (k : ℕ) (c c' : Cursor) (n' : Table Node) (f : ParseFault) (r : Result ℕ ParseFault) →
-    Ok k ≡ counted s → k ≤ capacity n - length (items n) → source_of c ≡ source → ahead c ≡ listed s → Refused (expect block ∷ []) c n f c' n' → r ≡ Err f →
-    Parsed source s n r n'
-not_parsed source s n k c c' n' f r e h s≡ a≡ b r≡ =
-    let p : parse (listed s) ≡ refuse (ahead c') = ap parse (sym a≡) ∙ b.stops [] [] in
-    fits source s n k r n' e h
-    (subst (λ o. Answered source o n r n') (sym p) (r≡ ∙ ap Err (b.fault ∙ ap (λ x. refusal x (ahead c')) s≡))) b.same
+-- the parser at the first token of a source, with the records of a table
+pub record Begun (input : List ℕ) (s : Scanned) (n : Table Node) (p : Parser) : Type 0 where
+  pub source : source_of p ≡ input
+  pub left : ahead p ≡ listed s
+  pub nodes : p.nodes.now ≡ n
 
-pub more_left : (source : List ℕ) (s : Scanned) (n : Table Node) (k : ℕ) (c c' : Cursor) (n' : Table Node) (i : ℕ) (f : ParseFault) (r : Result ℕ ParseFault) →
-    Ok k ≡ counted s → k ≤ capacity n - length (items n) → source_of c ≡ source → ahead c ≡ listed s → Read (expect block ∷ []) [] c n i c' n' →
-    (stopped (ahead c') ≡ true) × (f ≡ refusal (source_of c') (ahead c')) → r ≡ Err f → Parsed source s n r n'
-more_left source s n k c c' n' i f r e h s≡ a≡ b (more, f≡) r≡ =
-    let p : parse (listed s) ≡ refuse (ahead c') = ap parse (sym a≡) ∙ b.reads [] [] ∙ stop (ahead c') more in
-    fits source s n k r n' e h
-    (subst (λ o. Answered source o n r n') (sym p) (r≡ ∙ ap Err (f≡ ∙ ap (λ x. refusal x (ahead c')) (b.source ∙ s≡)))) b.same
-  where
-    stop : (ts : List Token) → stopped ts ≡ true → run [] (b.tree ∷ []) ts ≡ refuse ts
-    stop [] e = opposed (sym e)
-    stop (t ∷ ts) e = refl
+unplaced : (source : List ℕ) (ts : List Token) → unwrap_or (place_ahead ts) (length source) ≡ place_of source ts
+unplaced source [] = refl
+unplaced source (t ∷ ts) = refl
 
-pub well_parsed : (source : List ℕ) (s : Scanned) (n : Table Node) (k : ℕ) (c c' : Cursor) (n' : Table Node) (i : ℕ) →
-    Ok k ≡ counted s → k ≤ capacity n - length (items n) → source_of c ≡ source → ahead c ≡ listed s → Read (expect block ∷ []) [] c n i c' n' →
-    ahead c' ≡ [] → Parsed source s n (Ok i) n'
-well_parsed source s n k c c' n' i e h s≡ a≡ b none =
-    let p : parse (listed s) ≡ accept b.tree = ap parse (sym a≡) ∙ b.reads [] [] ∙ ap (run [] (b.tree ∷ [])) none in
+pub not_parsed : {source : List ℕ} {s : Scanned} {n n' : Table Node} {k : ℕ} {p p' : Parser} {place : ℕ} (what : SyntaxCause) →
+    Ok k ≡ counted s → k ≤ capacity n - length (items n) → Begun source s n p → (run (expect block ∷ []) [] (ahead p) ≡ refuse (ahead p')) × Same p p' →
+    place ≡ unwrap_or (place_ahead (ahead p')) (length source) → n' ≡ p'.nodes.now → Parsed source s n (Err (Syntax (record { what = what; place = place }))) n'
+not_parsed {source} {s} {n} {n'} {k} {p} {p'} {place} Unexpected e h b (stops, same) place≡ n≡ =
+    let o : parse (listed s) ≡ refuse (ahead p') = ap parse (sym b.left) ∙ stops in
+    fits source s n k _ n' e h
+    (subst (λ o. Answered source o n (Err (Syntax (record { what = Unexpected; place = place }))) n') (sym o)
+    (ap (λ x. Err (Syntax (record { what = Unexpected; place = x }))) (place≡ ∙ unplaced source (ahead p'))))
+    (ap capacity n≡ ∙ same.room ∙ ap capacity b.nodes)
+
+pub well_parsed : {source : List ℕ} {s : Scanned} {n n' : Table Node} {k : ℕ} {p p' : Parser} {i : ℕ} →
+    Ok k ≡ counted s → k ≤ capacity n - length (items n) → Begun source s n p → Whole p i p' → n' ≡ p'.nodes.now → Parsed source s n (Ok i) n'
+well_parsed {source} {s} {n} {n'} {k} {p} {p'} {i} e h b w n≡ =
+    let r = w.read in
+    let o : parse (listed s) ≡ accept r.tree = ap parse (sym b.left) ∙ r.reads [] [] ∙ ap (run [] (r.tree ∷ [])) w.nothing in
     fits source s n k (Ok i) n' e h
-    (subst (λ o. Answered source o n (Ok i) n') (sym p) (i, b.more, refl, subst (λ x. Shows x (items n') i b.tree) s≡ b.shown, b.grown)) b.same
+    (subst (λ o. Answered source o n (Ok i) n') (sym o) (
+      i,
+      r.more,
+      refl,
+      subst (λ (x : Table Node). Shows source (items x) i r.tree) (sym n≡) (subst (λ x. Shows x (items p'.nodes.now) i r.tree) b.source r.shown),
+      ap items n≡ ∙ r.grown ∙ ap (λ x. items x ++ r.more) b.nodes,
+    ))
+    (ap capacity n≡ ∙ r.same.room ∙ ap capacity b.nodes)

@@ -1,21 +1,32 @@
--- The tokens that a cursor has yet to take.
-use Rattle.std.specs.Prelude.{◌≡◌, ℕ, Bool, true, false, List, [], ◌∷◌, length, Some, None, Ok, Err, Option, Result}
+-- What a parser has before it and behind it: the tokens that it has yet to take, and the records of its table.
+use Rattle.std.specs.Prelude.{◌≡◌, ℕ, ◌+◌, ◌<◌, Bool, true, false, List, [], ◌∷◌, length, Some, None, Ok, Err, Option, Result}
 use Rattle.tiny.specs.declared.tokens.Kind.{Kind}
 use Rattle.tiny.specs.declared.tokens.Lexeme.{Lexeme}
 use Rattle.tiny.specs.declared.placed.Placed.{Placed}
 use Rattle.tiny.specs.Token.{Token}
 use Rattle.tiny.specs.Scan.{token_in, left_of}
-use Rattle.parser.specs.declared.cursor.Cursor.{Cursor}
-use Rattle.parser.specs.declared.faults.ParseFault.{ParseFault}
-use Rattle.parser.specs.declared.faults.ParseFault.TheVariants.{Syntax}
-use Rattle.parser.specs.declared.faults.SyntaxCause.TheVariants.{Unexpected}
+use Rattle.tables.specs.Items.{items, capacity, Pushed}
+use Rattle.nodes.specs.declared.node.Node.{Node}
+use Rattle.parser.specs.declared.parser.Parser.{Parser}
+use Rattle.parser.specs.declared.faults.SyntaxCause.{SyntaxCause}
 use Rattle.parser.specs.Rest.{among, tokens_of}
 
-abbrev pub source_of : Cursor → List ℕ
-source_of c = c.scanner.source.now
+abbrev pub source_of : Parser → List ℕ
+source_of p = p.scanner.source.now
 
-abbrev pub ahead : Cursor → List Token
-ahead c = tokens_of (source_of c) c.next (left_of c.scanner.read (source_of c) c.scanner.at)
+abbrev pub ahead : Parser → List Token
+ahead p = tokens_of (source_of p) p.next (left_of p.scanner.read (source_of p) p.scanner.at)
+
+abbrev pub records : Parser → List Node
+records p = items p.nodes.now
+
+-- how many records there may be
+abbrev pub room : Parser → ℕ
+room p = capacity p.nodes.now
+
+-- there is room for one record more than there are tokens ahead
+abbrev pub Spare : Parser → Type 0
+Spare p = length (records p) + length (ahead p) < room p
 
 -- the first token, if there is one, is of one of these kinds
 abbrev pub stands : List Kind → List Token → Bool
@@ -23,33 +34,37 @@ stands ks [] = false
 stands ks (t ∷ ts) = among t.kind ks
 
 -- a token of one of these kinds was taken, the first of those ahead
-pub record Took (ks : List Kind) (c : Cursor) (t : Placed Lexeme) (c' : Cursor) : Type 0 where
-  pub source : source_of c' ≡ source_of c
-  pub first : ahead c ≡ token_in (source_of c) t ∷ ahead c'
+pub record Took (ks : List Kind) (p : Parser) (t : Placed Lexeme) (p' : Parser) : Type 0 where
+  pub source : source_of p' ≡ source_of p
+  pub first : ahead p ≡ token_in (source_of p) t ∷ ahead p'
   pub kind : among t.what.kind ks ≡ true
+  pub nodes : p'.nodes ≡ p.nodes
 
 -- a token was taken, or there is none of these kinds
-abbrev pub Taken : List Kind → Cursor → Option (Placed Lexeme) → Cursor → Type 0
-Taken ks c None c' = (c' ≡ c) × (stands ks (ahead c) ≡ false)
-Taken ks c (Some t) c' = Took ks c t c'
+abbrev pub Taken : List Kind → Parser → Option (Placed Lexeme) → Parser → Type 0
+Taken ks p None p' = (p' ≡ p) × (stands ks (ahead p) ≡ false)
+Taken ks p (Some t) p' = Took ks p t p'
 
--- where a refusal stands: at the first token that is left, or at the end of the source
-abbrev pub place_of : List ℕ → List Token → ℕ
-place_of source [] = length source
-place_of source (t ∷ ts) = t.place
+abbrev pub Expected : List Kind → Parser → Result (Placed Lexeme) SyntaxCause → Parser → Type 0
+Expected ks p (Ok t) p' = Took ks p t p'
+Expected ks p (Err f) p' = (p' ≡ p) × (stands ks (ahead p) ≡ false)
 
-abbrev pub refusal : List ℕ → List Token → ParseFault
-refusal source ts = Syntax (record { what = Unexpected; place = place_of source ts })
-
-abbrev pub Expected : List Kind → Cursor → Result (Placed Lexeme) ParseFault → Cursor → Type 0
-Expected ks c (Ok t) c' = Took ks c t c'
-Expected ks c (Err f) c' = (c' ≡ c) × (stands ks (ahead c) ≡ false) × (f ≡ refusal (source_of c) (ahead c))
+-- a record was added, to the same table
+pub record Added (p : Parser) (x : Node) (i : ℕ) (p' : Parser) : Type 0 where
+  pub source : source_of p' ≡ source_of p
+  pub still : ahead p' ≡ ahead p
+  pub lent : p'.nodes.ghost_name ≡ p.nodes.ghost_name
+  pub pushed : Pushed p.nodes.now x i p'.nodes.now
 
 abbrev pub stopped : List Token → Bool
 stopped [] = false
 stopped (t ∷ ts) = true
 
 -- nothing is ahead, or a token is
-abbrev pub Ended : Cursor → Result (Unit {0}) ParseFault → Type 0
-Ended c (Ok u) = ahead c ≡ []
-Ended c (Err f) = (stopped (ahead c) ≡ true) × (f ≡ refusal (source_of c) (ahead c))
+abbrev pub Ended : Parser → Result (Unit {0}) SyntaxCause → Type 0
+Ended p (Ok u) = ahead p ≡ []
+Ended p (Err f) = stopped (ahead p) ≡ true
+
+abbrev pub place_ahead : List Token → Option ℕ
+place_ahead [] = None
+place_ahead (t ∷ ts) = Some t.place

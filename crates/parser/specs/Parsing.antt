@@ -10,7 +10,7 @@ use Rattle.tables.specs.Items.{items, capacity}
 use Rattle.nodes.specs.Shows.{Shows}
 use Rattle.parser.specs.declared.faults.ParseFault.{ParseFault}
 use Rattle.parser.specs.declared.faults.ParseFault.TheVariants.{Scan, Full}
-use Rattle.parser.specs.Ahead.{refusal}
+use Rattle.parser.specs.Refusals.{refusal}
 
 -- the record of the answer shows the tree, behind the records that were there; or the refusal stands where the parser stops
 abbrev pub Answered : List ℕ → Outcome → Table Node → Result ℕ ParseFault → Table Node → Type 0

@@ -1,171 +1,154 @@
 // Expressions, a function for each level: from what is done last, `=`, to names and literals.
 ghost use Rattle.std.specs.Prelude.{[], ◌∷◌};
 ghost use Rattle.syntax.specs.Grammar.{Sort};
-ghost use Rattle.syntax.specs.Parse.{Tail, expect, further};
-ghost use Rattle.parser.specs.Reading.{Reads, Room, selecting};
+ghost use Rattle.syntax.specs.Parse.{expect, further};
+ghost use Rattle.syntax.specs.Parse.Tail.{minus?};
+ghost use Rattle.parser.specs.Forms.{tail, operand, selecting};
+ghost use Rattle.parser.specs.Reading.{Reads, Continues};
 
-use crate::cursor::Cursor;
-use crate::faults::ParseFault;
-use nodes::node::Node;
-use tables::table::Table;
+use crate::faults::SyntaxCause;
+use crate::forms::Tail;
+use crate::parser::Parser;
 use tiny::tokens::Kind;
 
-// Level 0: `=` to the right.
-#[cycle(levels)]
-pub fn assignment(cursor: &mut Cursor, nodes: &mut Table<Node>) -> Result<usize, ParseFault>
-    requires { Room cursor.old nodes.old }
-    ensures { Reads (expect Sort.e0 ∷ []) cursor.old nodes.old result cursor.new nodes.new }
-{
-    let left = relations(cursor, nodes)?;
-    if let Some(token) = cursor.take(&[Kind::Becomes]) {
-        let right = assignment(cursor, nodes)?;
-        return Ok(nodes.push(Node::Join { token, left, right }));
+impl Parser<'_, '_, '_> {
+    // Level 0: `=` to the right.
+    #[cycle(levels)]
+    pub fn assignment(&mut self) -> Result<usize, SyntaxCause>
+        ensures { Reads (expect Sort.e0 ∷ []) self.old result self.new }
+    {
+        let left = self.relations()?;
+        self.further(Tail::Assignment, left)
     }
-    Ok(left)
-}
 
-// Level 1: relations to the left.
-#[cycle(levels)]
-fn relations(cursor: &mut Cursor, nodes: &mut Table<Node>) -> Result<usize, ParseFault>
-    requires { Room cursor.old nodes.old }
-    ensures { Reads (expect Sort.e1 ∷ []) cursor.old nodes.old result cursor.new nodes.new }
-{
-    let mut left = sums(cursor, nodes)?;
-    while let Some(token) = cursor.take(&[
-        Kind::Less,
-        Kind::Greater,
-        Kind::LessEqual,
-        Kind::GreaterEqual,
-        Kind::Equal,
-        Kind::NotEqual,
-    ]) {
-        let right = sums(cursor, nodes)?;
-        left = nodes.push(Node::Join { token, left, right });
+    // Level 1: relations to the left.
+    #[cycle(levels)]
+    fn relations(&mut self) -> Result<usize, SyntaxCause>
+        ensures { Reads (expect Sort.e1 ∷ []) self.old result self.new }
+    {
+        let left = self.sums()?;
+        self.further(Tail::Relation, left)
     }
-    Ok(left)
-}
 
-// Level 2: one `-` at most, and then `+` to the left.
-#[cycle(levels)]
-fn sums(cursor: &mut Cursor, nodes: &mut Table<Node>) -> Result<usize, ParseFault>
-    requires { Room cursor.old nodes.old }
-    ensures { Reads (expect Sort.e2 ∷ []) cursor.old nodes.old result cursor.new nodes.new }
-{
-    let mut left = difference(cursor, nodes)?;
-    while let Some(token) = cursor.take(&[Kind::Plus]) {
-        let right = logic(cursor, nodes)?;
-        left = nodes.push(Node::Join { token, left, right });
+    // Level 2: one `-` at most, and then `+` to the left.
+    #[cycle(levels)]
+    fn sums(&mut self) -> Result<usize, SyntaxCause>
+        ensures { Reads (expect Sort.e2 ∷ []) self.old result self.new }
+    {
+        let left = self.difference()?;
+        self.further(Tail::Sum, left)
     }
-    Ok(left)
-}
 
-#[cycle(levels)]
-fn difference(cursor: &mut Cursor, nodes: &mut Table<Node>) -> Result<usize, ParseFault>
-    requires { Room cursor.old nodes.old }
-    ensures { Reads (expect Sort.e3 ∷ further Tail.minus? ∷ []) cursor.old nodes.old result cursor.new nodes.new }
-{
-    let left = logic(cursor, nodes)?;
-    if let Some(token) = cursor.take(&[Kind::Minus]) {
-        let right = logic(cursor, nodes)?;
-        return Ok(nodes.push(Node::Join { token, left, right }));
+    #[cycle(levels)]
+    fn difference(&mut self) -> Result<usize, SyntaxCause>
+        ensures { Reads (expect Sort.e3 ∷ further minus? ∷ []) self.old result self.new }
+    {
+        let left = self.logic()?;
+        self.further(Tail::Difference, left)
     }
-    Ok(left)
-}
 
-// Level 3: `and` to the right, one `or`.
-#[cycle(levels)]
-fn logic(cursor: &mut Cursor, nodes: &mut Table<Node>) -> Result<usize, ParseFault>
-    requires { Room cursor.old nodes.old }
-    ensures { Reads (expect Sort.e3 ∷ []) cursor.old nodes.old result cursor.new nodes.new }
-{
-    let left = products(cursor, nodes)?;
-    if let Some(token) = cursor.take(&[Kind::And]) {
-        let right = logic(cursor, nodes)?;
-        return Ok(nodes.push(Node::Join { token, left, right }));
+    // Level 3: `and` to the right, one `or`.
+    #[cycle(levels)]
+    fn logic(&mut self) -> Result<usize, SyntaxCause>
+        ensures { Reads (expect Sort.e3 ∷ []) self.old result self.new }
+    {
+        let left = self.products()?;
+        self.further(Tail::Logic, left)
     }
-    if let Some(token) = cursor.take(&[Kind::Or]) {
-        let right = products(cursor, nodes)?;
-        return Ok(nodes.push(Node::Join { token, left, right }));
-    }
-    Ok(left)
-}
 
-// Level 4: `* / %` to the left.
-#[cycle(levels)]
-fn products(cursor: &mut Cursor, nodes: &mut Table<Node>) -> Result<usize, ParseFault>
-    requires { Room cursor.old nodes.old }
-    ensures { Reads (expect Sort.e4 ∷ []) cursor.old nodes.old result cursor.new nodes.new }
-{
-    let mut left = prefix(cursor, nodes)?;
-    while let Some(token) = cursor.take(&[Kind::Times, Kind::Over, Kind::Percent]) {
-        let right = prefix(cursor, nodes)?;
-        left = nodes.push(Node::Join { token, left, right });
+    // Level 4: `* / %` to the left.
+    #[cycle(levels)]
+    fn products(&mut self) -> Result<usize, SyntaxCause>
+        ensures { Reads (expect Sort.e4 ∷ []) self.old result self.new }
+    {
+        let left = self.prefix()?;
+        self.further(Tail::Product, left)
     }
-    Ok(left)
-}
 
-// Level 5: `-` and `not` before an expression of this level.
-#[cycle(levels)]
-fn prefix(cursor: &mut Cursor, nodes: &mut Table<Node>) -> Result<usize, ParseFault>
-    requires { Room cursor.old nodes.old }
-    ensures { Reads (expect Sort.e5 ∷ []) cursor.old nodes.old result cursor.new nodes.new }
-{
-    if let Some(token) = cursor.take(&[Kind::Minus, Kind::Not]) {
-        let part = prefix(cursor, nodes)?;
-        return Ok(nodes.push(Node::Under { token, part }));
+    // Level 5: `-` and `not` before an expression of this level.
+    #[cycle(levels)]
+    fn prefix(&mut self) -> Result<usize, SyntaxCause>
+        ensures { Reads (expect Sort.e5 ∷ []) self.old result self.new }
+    {
+        if let Some(token) = self.take(&[Kind::Minus, Kind::Not]) {
+            let part = self.prefix()?;
+            return Ok(self.under(token, part));
+        }
+        self.postfix()
     }
-    postfix(cursor, nodes)
-}
 
-// Level 6: `[ ]` and `.` behind an expression.
-#[cycle(levels)]
-fn postfix(cursor: &mut Cursor, nodes: &mut Table<Node>) -> Result<usize, ParseFault>
-    requires { Room cursor.old nodes.old }
-    ensures { Reads (expect Sort.e6 ∷ []) cursor.old nodes.old result cursor.new nodes.new }
-{
-    let mut left = basic(cursor, nodes)?;
-    while let Some(token) = cursor.take(&[Kind::Index, Kind::Dot]) {
-        let right = selector(cursor, nodes, token.what.kind)?;
-        left = nodes.push(Node::Join { token, left, right });
+    // Level 6: `[ ]` and `.` behind an expression.
+    #[cycle(levels)]
+    fn postfix(&mut self) -> Result<usize, SyntaxCause>
+        ensures { Reads (expect Sort.e6 ∷ []) self.old result self.new }
+    {
+        let left = self.basic()?;
+        self.further(Tail::Postfix, left)
     }
-    Ok(left)
-}
 
-// What stands behind `.`, a name, or behind `[`, an expression and `]`.
-#[cycle(levels)]
-fn selector(
-    cursor: &mut Cursor,
-    nodes: &mut Table<Node>,
-    operator: Kind,
-) -> Result<usize, ParseFault>
-    requires { Room cursor.old nodes.old }
-    ensures { Reads (selecting operator) cursor.old nodes.old result cursor.new nodes.new }
-{
-    if operator.is(Kind::Dot) {
-        let token = cursor.expect(&[Kind::Name])?;
-        return Ok(nodes.push(Node::Leaf { token }));
+    // A name, a literal, or any expression in parentheses.
+    #[cycle(levels)]
+    fn basic(&mut self) -> Result<usize, SyntaxCause>
+        ensures { Reads (expect Sort.basic ∷ []) self.old result self.new }
+    {
+        if let Some(token) = self.take(&[
+            Kind::Name,
+            Kind::Literal,
+            Kind::TrueWord,
+            Kind::FalseWord,
+        ]) {
+            return Ok(self.leaf(token));
+        }
+        self.expect(&[Kind::Open])?;
+        let inner = self.assignment()?;
+        self.expect(&[Kind::Close])?;
+        Ok(inner)
     }
-    let inner = assignment(cursor, nodes)?;
-    cursor.expect(&[Kind::IndexEnd])?;
-    Ok(inner)
-}
 
-// A name, a literal, or any expression in parentheses.
-#[cycle(levels)]
-fn basic(cursor: &mut Cursor, nodes: &mut Table<Node>) -> Result<usize, ParseFault>
-    requires { Room cursor.old nodes.old }
-    ensures { Reads (expect Sort.basic ∷ []) cursor.old nodes.old result cursor.new nodes.new }
-{
-    if let Some(token) = cursor.take(&[
-        Kind::Name,
-        Kind::Literal,
-        Kind::TrueWord,
-        Kind::FalseWord,
-    ]) {
-        return Ok(nodes.push(Node::Leaf { token }));
+    // Operators of a tail behind an operand, each with the operand on its right.
+    #[cycle(levels)]
+    #[inline(never)]
+    fn further(&mut self, of: Tail, first: usize) -> Result<usize, SyntaxCause>
+        ensures { Continues (tail of) first self.old result self.new }
+    {
+        let mut left = first;
+        while let Some(token) = self.take(of.operators()) {
+            let right = self.operand(of, token.what.kind)?;
+            left = self.join(token, left, right);
+            if !of.repeats() {
+                return Ok(left);
+            }
+        }
+        Ok(left)
     }
-    cursor.expect(&[Kind::Open])?;
-    let inner = assignment(cursor, nodes)?;
-    cursor.expect(&[Kind::Close])?;
-    Ok(inner)
+
+    // What stands on the right of an operator.
+    #[cycle(levels)]
+    fn operand(&mut self, of: Tail, operator: Kind) -> Result<usize, SyntaxCause>
+        ensures { Reads (operand of operator) self.old result self.new }
+    {
+        match of {
+            Tail::Assignment => self.assignment(),
+            Tail::Relation => self.sums(),
+            Tail::Sum | Tail::Difference => self.logic(),
+            Tail::Logic if operator == Kind::And => self.logic(),
+            Tail::Logic => self.products(),
+            Tail::Product => self.prefix(),
+            Tail::Postfix => self.selector(operator),
+        }
+    }
+
+    // What stands behind `.`, a name, or behind `[`, an expression and `]`.
+    #[cycle(levels)]
+    fn selector(&mut self, operator: Kind) -> Result<usize, SyntaxCause>
+        ensures { Reads (selecting operator) self.old result self.new }
+    {
+        if operator == Kind::Dot {
+            let token = self.expect(&[Kind::Name])?;
+            return Ok(self.leaf(token));
+        }
+        let inner = self.assignment()?;
+        self.expect(&[Kind::IndexEnd])?;
+        Ok(inner)
+    }
 }

@@ -1,7 +1,7 @@
 // Why a source is refused by the parser, or by the scanner before it.
 ghost use Rattle.std.specs.Prelude.{◌≡◌};
-ghost use Rattle.parser.specs.Refusals.{parse_number, parse_place};
 ghost use Rattle.parser.specs.declared.faults.ParseFault.TheVariants.{Scan};
+ghost use Rattle.parser.specs.Refusals.{parse_number, parse_place};
 
 use tiny::faults::{ScanCause, ScanFault};
 use tiny::placed::Placed;

@@ -1,10 +1,11 @@
 // From a source to a table that shows its tree.
 #![tactic(auto)]
 
-mod arguments;
 mod blocks;
-mod cursor;
 mod expressions;
 pub mod faults;
+mod forms;
+mod lists;
 pub mod parse;
+mod parser;
 mod types;

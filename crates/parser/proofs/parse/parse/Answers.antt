@@ -1,8 +1,8 @@
-use Rattle.std.proofs.Common.{◌-◌, ◌≤◌, length, Err, ap, ◌∙◌, arith}
+use Rattle.std.proofs.Common.{rules, length, unwrap_or, Err, refl, ap, ◌∙◌, arith}
 use Rattle.std.proofs.lemmas.Result.{err_from_is_err_and}
 use Rattle.tiny.specs.Scan.{scan}
-use Rattle.tables.specs.Items.{items, capacity}
-use Rattle.parser.proofs.Whole.{scans_well, count_is, few, not_scanned, too_small, not_parsed, more_left, well_parsed}
+use Rattle.parser.proofs.Scanning.{opened}
+use Rattle.parser.proofs.Whole.{scans_well, count_is, few, not_scanned, too_small, not_parsed, well_parsed}
 use Rattle.parser.proofs.parse.parse.Goals as goal
 
 pub returns-in_err-count : goal.returns-in_err-count
@@ -13,37 +13,42 @@ returns-in_err-count c =
 pub returns-then-room-count : goal.returns-then-room-count
 returns-then-room-count c = too_small c.args.source.now (scan c.args.source.now) c.args.nodes.now c.in_ok-count.count c.in_ok-count.ensures (omega arith)
 
-pub new-cursor-requires : goal.new-cursor-requires
-new-cursor-requires c = scans_well (scan c.args.source.now) c.in_ok-count.count c.in_ok-count.ensures
-
-pub block-requires : goal.block-requires
-block-requires c =
-    let n = c.args.nodes.now in
-    omega (arith, few n, ap length c.new-cursor.ensures.ahead, count_is (scan c.args.source.now) c.in_ok-count.count c.in_ok-count.ensures)
-
-pub returns-in_err-root : goal.returns-in_err-root
-returns-in_err-root c =
-    let n = c.args.nodes.now in
+pub unwrap-next-requires : goal.unwrap-next-requires
+unwrap-next-requires c =
     let source = c.args.source.now in
-    let fits : c.in_ok-count.count ≤ capacity n - length (items n) = omega arith in
-    let p = err_from_is_err_and c.from_residual-in_err-root.result c.from_residual-in_err-root.ensures.1 in
-    not_parsed source (scan source) n c.in_ok-count.count c.new-cursor.result c.block.new.cursor c.block.new.nodes c.in_err-root.field-0.0
-    c.from_residual-in_err-root.result c.in_ok-count.ensures fits c.new-cursor.ensures.source c.new-cursor.ensures.ahead c.in_err-root.ensures (p.1 ∙ ap Err p.2)
+    let k = c.in_ok-count.ensures in
+    let n = c.new-scanner.ensures in
+    let e = c.next.new.self in
+    let o = opened source c.new-scanner.result e c.next.result (scans_well (scan source) c.in_ok-count.count k) n.source n.at n.read c.next.ensures.source c.next.ensures.left in
+    o.scans
 
-pub returns-in_err-finish : goal.returns-in_err-finish
-returns-in_err-finish c =
-    let n = c.args.nodes.now in
+pub invariant_of-parser : goal.invariant_of-parser
+invariant_of-parser c =
     let source = c.args.source.now in
-    let fits : c.in_ok-count.count ≤ capacity n - length (items n) = omega arith in
-    let p = err_from_is_err_and c.from_residual-in_err-finish.result c.from_residual-in_err-finish.ensures.1 in
-    more_left source (scan source) n c.in_ok-count.count c.new-cursor.result c.block.new.cursor c.block.new.nodes c.in_ok-root.root c.in_err-finish.field-0.0
-    c.from_residual-in_err-finish.result c.in_ok-count.ensures fits c.new-cursor.ensures.source c.new-cursor.ensures.ahead c.in_ok-root.ensures
-    c.in_err-finish.ensures (p.1 ∙ ap Err p.2)
+    let k = c.in_ok-count.ensures in
+    let n = c.new-scanner.ensures in
+    let e = c.next.new.self in
+    let o = opened source c.new-scanner.result e c.next.result (scans_well (scan source) c.in_ok-count.count k) n.source n.at n.read c.next.ensures.source c.next.ensures.left in
+    let f = o.first c.unwrap-next.result c.unwrap-next.ensures in
+    record { sound = f.sound; room = omega (arith, few c.args.nodes.now, ap length f.all, count_is (scan source) c.in_ok-count.count k) }
 
-pub returns : goal.returns
-returns c =
-    let n = c.args.nodes.now in
+pub returns-in-Ok : goal.returns-in-Ok
+returns-in-Ok c =
     let source = c.args.source.now in
-    let fits : c.in_ok-count.count ≤ capacity n - length (items n) = omega arith in
-    well_parsed source (scan source) n c.in_ok-count.count c.new-cursor.result c.block.new.cursor c.block.new.nodes c.in_ok-root.root
-    c.in_ok-count.ensures fits c.new-cursor.ensures.source c.new-cursor.ensures.ahead c.in_ok-root.ensures c.in_ok-finish.ensures
+    let k = c.in_ok-count.ensures in
+    let n = c.new-scanner.ensures in
+    let e = c.next.new.self in
+    let o = opened source c.new-scanner.result e c.next.result (scans_well (scan source) c.in_ok-count.count k) n.source n.at n.read c.next.ensures.source c.next.ensures.left in
+    let f = o.first c.unwrap-next.result c.unwrap-next.ensures in
+    well_parsed k (omega arith) (record { source = f.same; left = f.all; nodes = refl }) c.in-Ok.ensures (search rules)
+
+pub returns-in-Err : goal.returns-in-Err
+returns-in-Err c =
+    let source = c.args.source.now in
+    let k = c.in_ok-count.ensures in
+    let n = c.new-scanner.ensures in
+    let e = c.next.new.self in
+    let o = opened source c.new-scanner.result e c.next.result (scans_well (scan source) c.in_ok-count.count k) n.source n.at n.read c.next.ensures.source c.next.ensures.left in
+    let f = o.first c.unwrap-next.result c.unwrap-next.ensures in
+    not_parsed c.in-Err.what k (omega arith) (record { source = f.same; left = f.all; nodes = refl }) c.in-Err.ensures
+    (c.unwrap_or-place.ensures ∙ ap (λ o. unwrap_or o (length source)) c.place.ensures) (search rules)
