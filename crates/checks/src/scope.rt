@@ -1,6 +1,6 @@
 // The scope record: which names are open, and what a block or a procedure changes and its end gives
 // back.
-ghost use Rattle.std.specs.Prelude.{◌≡◌};
+ghost use Rattle.std.specs.Prelude.{◌≡◌, ◌≤◌};
 
 #[derive(Clone, Copy)]
 pub struct Scope {
@@ -12,6 +12,22 @@ pub struct Scope {
     pub offset: u32,
     // How many procedures stand around.
     pub level: u8,
+    ghost ordered: { start ≤ top },
+}
+
+impl Scope {
+    // A scope with no names yet, on top of so many.
+    pub fn on(top: usize) -> Self
+        ensures top { result.top ≡ top }
+        ensures start { result.start ≡ top }
+    {
+        Scope {
+            top,
+            start: top,
+            offset: 0,
+            level: 0,
+        }
+    }
 }
 
 // An open block or procedure: at its end, by its brace or by a refusal, the scope record is again
