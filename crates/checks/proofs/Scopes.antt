@@ -165,6 +165,9 @@ enter {source = source} {n = n} u p q h =
 pub declares_at : {source : List ℕ} {n : Names} {s u : Scope} {Δ : Open} → u ≡ s → Declares source n s Δ → Declares source n u Δ
 declares_at {source = source} {n = n} {Δ = Δ} e h = subst (λ z. Declares source n z Δ) (sym e) h
 
+pub keeps_at : {n m : ℕ} {a b : Names} → m ≡ n → Keeps m a b → Keeps n a b
+keeps_at {a = a} {b = b} e h = subst (λ z. Keeps z a b) e h
+
 pub proceeded_at : {e : Subtree} {a b : Names} {s u : Scope} (v : Scope) → u ≡ v → Proceeded e a b s v → Proceeded e a b s u
 proceeded_at {e} {a} {b} {s} v p h = subst (λ z. Proceeded e a b s z) (sym p) h
 

@@ -206,9 +206,7 @@ impl Names<'_, '_, '_> {
         ensures after { WhenOk result (Proceeded head.entry self.old self.new scope.old scope.new) }
     {
         self.declare(scope, head.token())?;
-        let before = *scope;
-        let inner = Enclosed { scope, before };
-        inner.scope.start = before.top;
+        let inner = Enclosed::open(scope);
         self.formals(inner.scope, head.part())?;
         self.block(inner.scope, body)
     }
@@ -276,11 +274,9 @@ impl Names<'_, '_, '_> {
     {
         match tree.shape() {
             Shape::Under { part, .. } => {
-                let before = *scope;
-                let inner = Enclosed { scope, before };
-                inner.scope.start = before.top;
-                self.declarations(inner.scope, part)?;
-                self.statements(inner.scope, part)
+                let inside = Enclosed::open(scope);
+                self.declarations(inside.scope, part)?;
+                self.statements(inside.scope, part)
             }
             _ => Ok(()),
         }

@@ -37,6 +37,22 @@ pub struct Enclosed<'a> {
     pub before: Scope,
 }
 
+impl<'a> Enclosed<'a> {
+    // Opens a scope with no names yet, inside the one that there is.
+    pub fn open(scope: &'a mut Scope) -> Self
+        ensures same_reference { result.scope.ghost_name ≡ scope.entry.ghost_name }
+        ensures top { result.scope.now.top ≡ scope.old.top }
+        ensures start { result.scope.now.start ≡ scope.old.top }
+        ensures offset { result.scope.now.offset ≡ scope.old.offset }
+        ensures level { result.scope.now.level ≡ scope.old.level }
+        ensures before { result.before ≡ scope.old }
+    {
+        let before = *scope;
+        scope.start = scope.top;
+        Enclosed { scope, before }
+    }
+}
+
 impl Drop for Enclosed<'_> {
     fn drop(self)
         ensures { self.exit.0.now ≡ self.entry.before }

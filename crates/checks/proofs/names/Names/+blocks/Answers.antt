@@ -1,4 +1,4 @@
-use Rattle.std.proofs.Common.{[], ◌∷◌, sym, refl, ap, subst, arith}
+use Rattle.std.proofs.Common.{[], ◌∷◌, sym, refl, ap, subst, arith, rules}
 use Rattle.tiny.specs.Tree.{Formals}
 use Rattle.syntax.specs.Shape.{token_of}
 use Rattle.syntax.specs.View.{formals, part_of, block}
@@ -8,20 +8,20 @@ use Rattle.checks.proofs.NamesViews.{declarations_type, declarations_variable, d
 use Rattle.checks.proofs.Steps.{made, ends, passes, stops, by, at_token}
 use Rattle.checks.proofs.Steps.Plan.{last, next}
 use Rattle.checks.proofs.Room.{new_amp, new_type, new_name, new_amp_join, new_both, new_proc, amp_right, semi_left, semi_right, next_fits}
-use Rattle.checks.proofs.Scopes.{yes_ok, not_ok, with_ok, keeps_all, keeps_both, declares_kept, declares_named, grown_named, grown_both, grown_behind, enter, declares_at, proceeded_at, declares_text, grown_then}
+use Rattle.checks.proofs.Scopes.{yes_ok, not_ok, with_ok, keeps_all, keeps_both, declares_kept, declares_named, grown_named, grown_both, grown_behind, enter, declares_at, keeps_at, proceeded_at, declares_text, grown_then}
 use Rattle.checks.proofs.names.Names.+blocks.Goals as goal
 
 pub block-returns-in_err-declarations-in-Under-clause-names : goal.block-returns-in_err-declarations-in-Under-clause-names
 block-returns-in_err-declarations-in-Under-clause-names t c = λ s u Δ h D.
     let j = c.in-Under.ensures.shown s u h in
-    by (block_under _ _ _ j.whole) (stops _ c.from_residual.ensures.1 (c.in_err-declarations-in-Under.ensures.names s _ _ j.shown (enter {s = c.args.scope.now} _ refl refl D)))
+    by (block_under _ _ _ j.whole) (stops _ c.from_residual.ensures.1 (c.in_err-declarations-in-Under.ensures.names s _ _ j.shown (enter {s = c.args.scope.now} _ c.open-inside.ensures.top c.open-inside.ensures.start D)))
 
 pub block-returns-in_ok-declarations-in-Under-clause-names : goal.block-returns-in_ok-declarations-in-Under-clause-names
 block-returns-in_ok-declarations-in-Under-clause-names t c = λ s u Δ h D.
     let j = c.in-Under.ensures.shown s u h in
     let g = c.in_ok-declarations-in-Under.ensures.after.then _ refl in
     by (block_under _ _ _ j.whole)
-    (passes (c.in_ok-declarations-in-Under.ensures.names s _ _ j.shown (enter {s = c.args.scope.now} _ refl refl D)) (ends (c.statements.ensures.names s _ _ j.shown (g.declares s _ _ j.shown (enter {s = c.args.scope.now} _ refl refl D)))))
+    (passes (c.in_ok-declarations-in-Under.ensures.names s _ _ j.shown (enter {s = c.args.scope.now} _ c.open-inside.ensures.top c.open-inside.ensures.start D)) (ends (c.statements.ensures.names s _ _ j.shown (g.declares s _ _ j.shown (enter {s = c.args.scope.now} _ c.open-inside.ensures.top c.open-inside.ensures.start D)))))
 
 pub branches-returns-in_err-block-in-Join-clause-names : goal.branches-returns-in_err-block-in-Join-clause-names
 branches-returns-in_err-block-in-Join-clause-names t c = λ s u Δ h D.
@@ -154,13 +154,13 @@ procedure-returns-in_err-formals-clause-names t c = λ s l m Δ h i D.
     let n = c.in_ok-declare.ensures.named.then _ refl in
     by (made {p = next (twice (innermost Δ) (token_of l).place (token_of l).text) (next (names_formals (formals (part_of l) Formals.no_formal) ([] ∷ added (token_of l).text Δ)) (last (names_block (block m) (open_formals (formals (part_of l) Formals.no_formal) ([] ∷ added (token_of l).text Δ)))))} refl)
     (passes (at_token (λ x. twice (innermost Δ) x.place x.text) (c.token.ensures s _ h) (c.in_ok-declare.ensures.twice s _ D.inner))
-    (stops _ c.from_residual-in_err-formals.ensures.1 (c.in_err-formals.ensures.names s _ _ (c.part.ensures.leads s _ h) (enter {s = c.declare.new.scope} _ refl refl (declares_text Δ (ap (λ x. x.text) (c.token.ensures s _ h)) (declares_named n D))))))
+    (stops _ c.from_residual-in_err-formals.ensures.1 (c.in_err-formals.ensures.names s _ _ (c.part.ensures.leads s _ h) (enter {s = c.declare.new.scope} _ c.open-inner.ensures.top c.open-inner.ensures.start (declares_text Δ (ap (λ x. x.text) (c.token.ensures s _ h)) (declares_named n D))))))
 
 pub procedure-returns-clause-names : goal.procedure-returns-clause-names
 procedure-returns-clause-names t c = λ s l m Δ h i D.
     let n = c.in_ok-declare.ensures.named.then _ refl in
     let g = c.in_ok-formals.ensures.after.then _ refl in
-    let o = enter {s = c.declare.new.scope} _ refl refl (declares_text Δ (ap (λ x. x.text) (c.token.ensures s _ h)) (declares_named n D)) in
+    let o = enter {s = c.declare.new.scope} c.open-inner.result.scope.now c.open-inner.ensures.top c.open-inner.ensures.start (declares_text Δ (ap (λ x. x.text) (c.token.ensures s _ h)) (declares_named n D)) in
     by (made {p = next (twice (innermost Δ) (token_of l).place (token_of l).text) (next (names_formals (formals (part_of l) Formals.no_formal) ([] ∷ added (token_of l).text Δ)) (last (names_block (block m) (open_formals (formals (part_of l) Formals.no_formal) ([] ∷ added (token_of l).text Δ)))))} refl)
     (passes (at_token (λ x. twice (innermost Δ) x.place x.text) (c.token.ensures s _ h) (c.in_ok-declare.ensures.twice s _ D.inner))
     (passes (c.in_ok-formals.ensures.names s _ _ (c.part.ensures.leads s _ h) o) (ends (c.block.ensures.names s _ _ i (g.declares s _ _ (c.part.ensures.leads s _ h) o)))))
@@ -170,8 +170,8 @@ procedure-returns-clause-after t c =
     let n = c.in_ok-declare.ensures.named.then _ refl in
     let g = c.in_ok-formals.ensures.after.then _ refl in
     with_ok c.block.ensures.keeps (λ k.
-    let b = keeps_both g.grown.keeps k g.grown.more in
-    proceeded_at c.declare.new.scope c.drop-inner-2.ensures (record {
+    let b = keeps_at c.open-inner.ensures.top (keeps_both g.grown.keeps k g.grown.more) in
+    proceeded_at c.declare.new.scope (search rules) (record {
       grown = grown_then (grown_named n) b;
       declares = λ s l Δ h D. declares_kept b (omega arith) (declares_text Δ (ap (λ x. x.text) (c.token.ensures s _ h)) (declares_named n D));
       next = n.next;
