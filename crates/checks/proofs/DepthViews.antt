@@ -1,7 +1,5 @@
 -- The breaks of depth of each shape of tree, in the order in which the pass comes to them.
-use Rattle.std.proofs.Common.{◌≡◌, ℕ, suc, ◌+◌, Bool, true, false, cond, eqb, ltb, List, [], ◌∷◌, ◌++◌, ◌⊎◌, ⊎_elim, sym, refl, ap, ◌∙◌, append_assoc, append-nil, add-one, arith}
-use Rattle.std.proofs.lemmas.Bool.{eqb-true}
-use Rattle.tiny.specs.declared.tokens.Kind.{Kind}
+use Rattle.std.proofs.Common.{◌≡◌, ℕ, suc, ◌+◌, Bool, true, false, cond, ltb, List, [], ◌∷◌, ◌++◌, ◌⊎◌, sym, refl, ap, ◌∙◌, append_assoc, append-nil, add-one, arith}
 use Rattle.tiny.specs.declared.tokens.Kind.TheVariants.{Name, TypeWord, ProcWord, IfWord, WhileWord, ReadWord, WriteWord, Open, Semicolon, Becomes, Index, Dot, Comma, DoubleAmpersand, At}
 use Rattle.tiny.specs.Token.{Token, is, code}
 use Rattle.tiny.specs.Tree.{TypeTree, Fields, Expression, Formals, Statement, Statements, DeclarationTrees}
@@ -18,17 +16,9 @@ use Rattle.nodes.specs.declared.subtree.Shape.TheVariants.{Join}
 use Rattle.nodes.specs.Subtrees.{Shaped}
 use Rattle.nodes.proofs.KindTests.{is_kind, is_other}
 use Rattle.nodes.proofs.Shapes.{unjoined}
+use Rattle.checks.proofs.Choices.{along, same, behind, three, apart, no_mark, one_word}
 use Rattle.checks.proofs.Steps.{Made, made, taken, left}
 use Rattle.checks.proofs.Steps.Plan.{done, last, next, pick}
-
--- a function of what a test picks
-along : {X Y : Type 0} (f : X → Y) (b : Bool) (x y : X) → f (cond b x y) ≡ cond b (f x) (f y)
-along f true x y = refl
-along f false x y = refl
-
-same : {X : Type 0} (b : Bool) (x : X) → cond b x x ≡ x
-same true x = refl
-same false x = refl
 
 -- Expressions
 
@@ -38,9 +28,6 @@ deep_cond b x y d = along (λ e. deep e d) b x y
 pub deep_under : {u : Tree} (t : Token) (e : Tree) (d : ℕ) → u ≡ under t e →
     Made (deep (expression u) d) (next (deeper 96 d t.place) (last (deep (expression e) (d + 1))))
 deep_under t e d w = made (ap (λ x. deep (expression x) d) w ∙ simp add-one)
-
-apart : (k m n : ℕ) → eqb m n ≡ false → eqb k m ≡ true → eqb k n ≡ false
-apart k m n h e = let s : k ≡ m = eqb-true k m e in rw s h
 
 join_ways : (b c d : Bool) (A B C : List Break) → (b ≡ true → d ≡ false) → (c ≡ true → d ≡ false) →
     cond b (A ++ (B ++ C)) (cond c (A ++ (B ++ C)) (cond d (A ++ B) (A ++ (B ++ C)))) ≡ A ++ (B ++ cond d [] C)
@@ -98,9 +85,6 @@ fields_join t f r d w = made (ap (λ x. deep_fields (fields x Fields.no_field) d
 
 deep_formals_cond : (b : Bool) (x y : Formals) (d : ℕ) → deep_formals (cond b x y) d ≡ cond b (deep_formals x d) (deep_formals y d)
 deep_formals_cond b x y d = along (λ e. deep_formals e d) b x y
-
-behind : (b : Bool) (x y z : List Break) → cond b x y ++ z ≡ cond b (x ++ z) (y ++ z)
-behind b x y z = along (λ e. e ++ z) b x y
 
 spread_formals : (t : Tree) (more : Formals) (d : ℕ) → deep_formals (formals t more) d ≡ deep_formals (formals t Formals.no_formal) d ++ deep_formals more d
 spread_formals (leaf t) more d = refl
@@ -241,12 +225,6 @@ statements_leaf t d l w =
 block_here : {u v : Tree} (d l : ℕ) → u ≡ v → deep_block (block v) d l ≡ deep_block (block u) d l
 block_here d l w = ap (λ x. deep_block (block x) d l) (sym w)
 
--- three tests that take the same way
-three : {X : Type 0} (a b c : Bool) (x y : X) → cond a x (cond b x (cond c x y)) ≡ cond (cond a true (cond b true c)) x y
-three true b c x y = refl
-three false true c x y = refl
-three false false c x y = refl
-
 under_is : (t : Token) (e : Tree) (d l : ℕ) →
     deep_statements (statements (under t e) Statements.no_statement) d l ≡
     cond (is t.kind DoubleAmpersand) [] (cond (cond (is t.kind At) true (cond (is t.kind ReadWord) true (is t.kind WriteWord)))
@@ -305,13 +283,7 @@ module _ {u : Tree} (t : Token) (a b : Tree) (d l : ℕ) (w : u ≡ join t a b) 
 module _ {u : Tree} (t : Token) (e : Tree) (d l : ℕ) (w : u ≡ under t e) where
   pub statements_word : (t.kind ≡ At) ⊎ ((t.kind ≡ ReadWord) ⊎ (t.kind ≡ WriteWord)) →
       Made (deep_statements (statements u Statements.no_statement) d l) (next (deeper 96 d t.place) (last (deep (expression e) (d + 1))))
-  statements_word = ⊎_elim (word At refl refl) (⊎_elim (word ReadWord refl refl) (word WriteWord refl refl))
-    where
-      word : (x : Kind) → is x DoubleAmpersand ≡ false → cond (is x At) true (cond (is x ReadWord) true (is x WriteWord)) ≡ true → t.kind ≡ x →
-          Made (deep_statements (statements u Statements.no_statement) d l) (next (deeper 96 d t.place) (last (deep (expression e) (d + 1))))
-      word x f g k =
-          taken (left (statements_under t e d l w) (ap (λ k. is k DoubleAmpersand) k ∙ f))
-          (ap (λ k. cond (is k At) true (cond (is k ReadWord) true (is k WriteWord))) k ∙ g)
+  statements_word k = taken (left (statements_under t e d l w) (no_mark k)) (one_word k)
 
   pub statements_block : (t.kind ≡ DoubleAmpersand → ⊥) → (t.kind ≡ At → ⊥) → (t.kind ≡ ReadWord → ⊥) → (t.kind ≡ WriteWord → ⊥) →
       Made (deep_statements (statements u Statements.no_statement) d l) (last (deep_block (block u) d l))

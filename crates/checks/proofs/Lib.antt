@@ -1,3 +1,4 @@
+pub mod Choices
 pub mod DepthViews
 pub mod Held
 pub mod NamesViews

@@ -1,7 +1,5 @@
 -- The breaks of names of each shape of tree, in the order in which the pass comes to them.
-use Rattle.std.proofs.Common.{◌≡◌, ℕ, Bool, true, false, cond, eqb, List, [], ◌∷◌, ◌++◌, ◌⊎◌, ⊎_elim, sym, refl, ap, ◌∙◌, append_assoc, append-nil, arith}
-use Rattle.std.proofs.lemmas.Bool.{eqb-true}
-use Rattle.tiny.specs.declared.tokens.Kind.{Kind}
+use Rattle.std.proofs.Common.{◌≡◌, ℕ, Bool, true, false, cond, List, [], ◌∷◌, ◌++◌, ◌⊎◌, sym, refl, ap, ◌∙◌, append_assoc, append-nil, arith}
 use Rattle.tiny.specs.declared.tokens.Kind.TheVariants.{Name, TypeWord, ProcWord, IfWord, WhileWord, ReadWord, WriteWord, Open, Semicolon, Becomes, Index, Dot, Comma, DoubleAmpersand, At}
 use Rattle.tiny.specs.Token.{Token, is, code}
 use Rattle.tiny.specs.Tree as Tiny
@@ -21,24 +19,14 @@ use Rattle.nodes.specs.declared.subtree.Shape.TheVariants.{Join as TwoParted}
 use Rattle.nodes.specs.Subtrees.{Shaped}
 use Rattle.nodes.proofs.KindTests.{is_kind, is_other}
 use Rattle.nodes.proofs.Shapes.{unjoined}
+use Rattle.checks.proofs.Choices.{along, same, behind, three, apart, no_mark, one_word}
 use Rattle.checks.proofs.Steps.{Made, made, taken, left}
 use Rattle.checks.proofs.Steps.Plan.{done, last, next, pick}
-
-along : {X Y : Type 0} (f : X → Y) (b : Bool) (x y : X) → f (cond b x y) ≡ cond b (f x) (f y)
-along f true x y = refl
-along f false x y = refl
-
-same : {X : Type 0} (b : Bool) (x : X) → cond b x x ≡ x
-same true x = refl
-same false x = refl
 
 -- Expressions
 
 names_cond : (b : Bool) (x y : Expression) (Δ : Stages.Open) → names (cond b x y) Δ ≡ cond b (names x Δ) (names y Δ)
 names_cond b x y Δ = along (λ e. names e Δ) b x y
-
-apart : (k m n : ℕ) → eqb m n ≡ false → eqb k m ≡ true → eqb k n ≡ false
-apart k m n h e = let s : k ≡ m = eqb-true k m e in rw s h
 
 join_ways : (b c d : Bool) (A C : List Break) → (b ≡ true → d ≡ false) → (c ≡ true → d ≡ false) →
     cond b (A ++ C) (cond c (A ++ C) (cond d A (A ++ C))) ≡ A ++ cond d [] C
@@ -142,9 +130,6 @@ names_formals_cond b x y Δ = along (λ e. names_formals e Δ) b x y
 
 open_formals_cond : (b : Bool) (x y : Formals) (Δ : Stages.Open) → open_formals (cond b x y) Δ ≡ cond b (open_formals x Δ) (open_formals y Δ)
 open_formals_cond b x y Δ = along (λ e. open_formals e Δ) b x y
-
-behind : (b : Bool) (x y z : List Break) → cond b x y ++ z ≡ cond b (x ++ z) (y ++ z)
-behind b x y z = along (λ e. e ++ z) b x y
 
 pub opened_formals : (t : Tree) (more : Formals) (Δ : Stages.Open) → open_formals (formals t more) Δ ≡ open_formals more (open_formals (formals t Formals.no_formal) Δ)
 opened_formals (leaf t) more Δ = refl
@@ -358,11 +343,6 @@ statements_leaf t Δ w = made (ap (λ x. names_statements (statements x Statemen
 block_here : {u v : Tree} (Δ : Stages.Open) → u ≡ v → names_block (block v) Δ ≡ names_block (block u) Δ
 block_here Δ w = ap (λ x. names_block (block x) Δ) (sym w)
 
-three : {X : Type 0} (a b c : Bool) (x y : X) → cond a x (cond b x (cond c x y)) ≡ cond (cond a true (cond b true c)) x y
-three true b c x y = refl
-three false true c x y = refl
-three false false c x y = refl
-
 under_is : (t : Token) (e : Tree) (Δ : Stages.Open) →
     names_statements (statements (under t e) Statements.no_statement) Δ ≡
     cond (is t.kind DoubleAmpersand) [] (cond (cond (is t.kind At) true (cond (is t.kind ReadWord) true (is t.kind WriteWord)))
@@ -418,13 +398,7 @@ module _ {u : Tree} (t : Token) (a b : Tree) (Δ : Stages.Open) (w : u ≡ join 
 module _ {u : Tree} (t : Token) (e : Tree) (Δ : Stages.Open) (w : u ≡ under t e) where
   pub statements_word : (t.kind ≡ At) ⊎ ((t.kind ≡ ReadWord) ⊎ (t.kind ≡ WriteWord)) →
       Made (names_statements (statements u Statements.no_statement) Δ) (last (names (expression e) Δ))
-  statements_word = ⊎_elim (word At refl refl) (⊎_elim (word ReadWord refl refl) (word WriteWord refl refl))
-    where
-      word : (x : Kind) → is x DoubleAmpersand ≡ false → cond (is x At) true (cond (is x ReadWord) true (is x WriteWord)) ≡ true → t.kind ≡ x →
-          Made (names_statements (statements u Statements.no_statement) Δ) (last (names (expression e) Δ))
-      word x f g k =
-          taken (left (statements_under t e Δ w) (ap (λ k. is k DoubleAmpersand) k ∙ f))
-          (ap (λ k. cond (is k At) true (cond (is k ReadWord) true (is k WriteWord))) k ∙ g)
+  statements_word k = taken (left (statements_under t e Δ w) (no_mark k)) (one_word k)
 
   pub statements_block : (t.kind ≡ DoubleAmpersand → ⊥) → (t.kind ≡ At → ⊥) → (t.kind ≡ ReadWord → ⊥) → (t.kind ≡ WriteWord → ⊥) →
       Made (names_statements (statements u Statements.no_statement) Δ) (last (names_block (block u) Δ))

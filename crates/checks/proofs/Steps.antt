@@ -70,10 +70,6 @@ left {p = p} {q = q} m e = record { is = m.is ∙ ap (λ b. cond b (breaks p) (b
 pub by : {X F : Type 0} {f : F → Break} {r : Result X F} {A : List Break} {p : Plan} → Made A p → Goes f r p → Tells f r A
 by {f = f} {r = r} {A = A} {p = p} e k = subst (λ x. Tells f r x) (sym e.is) (let h : Tells f r (breaks p) = record { first = k.first } in h)
 
--- a place under another name
-pub at_place : {X F : Type 0} {f : F → Break} {r : Result X F} (g : ℕ → List Break) {p q : ℕ} → p ≡ q → Tells f r (g p) → Tells f r (g q)
-at_place {f = f} {r = r} g e k = subst (λ x. Tells f r (g x)) e k
-
 -- a token under another name
 pub at_token : {X F : Type 0} {f : F → Break} {r : Result X F} (g : Token → List Break) {x y : Token} → x ≡ y → Tells f r (g x) → Tells f r (g y)
 at_token {f = f} {r = r} g e k = subst (λ z. Tells f r (g z)) e k

@@ -1,8 +1,8 @@
 // The names that are declared: a stack in a table, the latest on top. A name is a stretch of the
 // source, and names are compared byte by byte.
-ghost use Rattle.std.specs.Prelude.{◌≡◌, ◌+◌, ◌-◌, ◌<◌, ◌≤◌, [], ◌∷◌, ◌++◌, length, take};
+ghost use Rattle.std.specs.Prelude.{◌≡◌, ◌+◌, ◌-◌, ◌≤◌, [], ◌∷◌, ◌++◌, take};
 ghost use Rattle.meaning.specs.Types.{same_name};
-ghost use Rattle.tables.specs.Items.{items, capacity};
+ghost use Rattle.checks.specs.Declares.{listed, most, FitsOne};
 ghost use Rattle.checks.specs.Names.{text_of, held};
 
 use tables::table::Table;
@@ -36,7 +36,7 @@ impl Names<'_, '_, '_> {
     // Whether one of the names from `start` up to `end` is spelled so.
     pub fn holds(&self, start: usize, end: usize, name: NameRecord) -> bool
         requires { start ≤ end }
-        ensures { result ≡ held self.now.source.now (items self.now.table.now) start (end - start) (text_of self.now.source.now name) }
+        ensures { result ≡ held self.now.source.now (listed self.now) start (end - start) (text_of self.now.source.now name) }
     {
         let Some(names) = self.table.as_slice().get(start..end) else {
             return false;
@@ -44,16 +44,15 @@ impl Names<'_, '_, '_> {
         names
             .iter()
             .rev()
-            .any(|other| is_same(self.source, name, *other))
+            .any(|other| spelled_alike(self.source, name, *other))
     }
 
     // Puts a name on top of the first `len`, and says how many there are then.
     pub fn put(&mut self, len: usize, name: NameRecord) -> usize
-        requires within { len ≤ length (items self.old.table.now) }
-        requires room { len < capacity self.old.table.now }
+        requires { FitsOne self.old len }
         ensures source { self.new.source.now ≡ self.old.source.now }
-        ensures items { items self.new.table.now ≡ take len (items self.old.table.now) ++ (name ∷ []) }
-        ensures room { capacity self.new.table.now ≡ capacity self.old.table.now }
+        ensures items { listed self.new ≡ take len (listed self.old) ++ (name ∷ []) }
+        ensures room { most self.new ≡ most self.old }
         ensures count { result ≡ len + 1 }
     {
         self.table.truncate(len);
@@ -63,7 +62,7 @@ impl Names<'_, '_, '_> {
 }
 
 // Whether two names are spelled alike.
-fn is_same(source: &[u8], a: NameRecord, b: NameRecord) -> bool
+fn spelled_alike(source: &[u8], a: NameRecord, b: NameRecord) -> bool
     ensures { result ≡ same_name (text_of source.now a) (text_of source.now b) }
 {
     text_of(source, a) == text_of(source, b)

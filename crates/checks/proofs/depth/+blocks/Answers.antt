@@ -1,7 +1,7 @@
-use Rattle.std.proofs.Common.{◌+◌, cond, ltb, ap}
+use Rattle.std.proofs.Common.{◌+◌, cond, ltb}
 use Rattle.meaning.specs.Stages.{deeper, break}
 use Rattle.checks.proofs.DepthViews.{declarations_type, declarations_variable, declarations_two, declarations_procedure, statements_two, statements_if, statements_while, statements_call, statements_block, statements_word, branches_join, branches_rest, block_under}
-use Rattle.checks.proofs.Steps.{ends, passes, stops, by, at_place}
+use Rattle.checks.proofs.Steps.{ends, passes, stops, by, at_token}
 use Rattle.checks.proofs.depth.+blocks.Goals as goal
 
 pub block-returns-in_err-node-in-Under : goal.block-returns-in_err-node-in-Under
@@ -41,7 +41,7 @@ declarations-returns-in_err-type_tree-in-TypeWord t c = λ s u d l h k.
 pub declarations-returns-in_ok-type_tree-in-TypeWord : goal.declarations-returns-in_ok-type_tree-in-TypeWord
 declarations-returns-in_ok-type_tree-in-TypeWord t c = λ s u d l h k.
     let j = c.in-Under.ensures.shown s u h in
-    by (declarations_type _ _ _ _ j.whole c.in-TypeWord.is) (passes (c.in_ok-type_tree-in-TypeWord.ensures s _ _ l (c.part.ensures.leads s _ j.shown) (c.deeper.ensures d l k)) (ends (at_place (deeper 96 d) (ap (λ x. x.place) (c.token.ensures s _ j.shown)) (c.node.ensures d l k))))
+    by (declarations_type _ _ _ _ j.whole c.in-TypeWord.is) (passes (c.in_ok-type_tree-in-TypeWord.ensures s _ _ l (c.part.ensures.leads s _ j.shown) (c.deeper.ensures d l k)) (ends (at_token (λ x. deeper 96 d x.place) (c.token.ensures s _ j.shown) (c.node.ensures d l k))))
 
 pub declarations-returns-in_err-type_tree-in-Name : goal.declarations-returns-in_err-type_tree-in-Name
 declarations-returns-in_err-type_tree-in-Name t c = λ s u d l h k.
@@ -66,17 +66,17 @@ declarations-returns-in_ok-declarations-in-Semicolon t c = λ s u d l h k.
 pub declarations-returns-in_err-procedure-in-ProcWord : goal.declarations-returns-in_err-procedure-in-ProcWord
 declarations-returns-in_err-procedure-in-ProcWord t c = λ s u d l h k.
     let j = c.in-Join.ensures.shown s u h in
-    by (declarations_procedure _ _ _ _ _ j.whole c.in-ProcWord.is) (stops _ c.from_residual-in_err-procedure-in-ProcWord.ensures.1 (at_place (λ p. cond (ltb 96 d) (break 7 p) (deeper 8 (l + 1) p)) (ap (λ x. x.place) (c.token-in-ProcWord.ensures s _ j.left_shown)) (c.in_err-procedure-in-ProcWord.ensures d l k)))
+    by (declarations_procedure _ _ _ _ _ j.whole c.in-ProcWord.is) (stops _ c.from_residual-in_err-procedure-in-ProcWord.ensures.1 (at_token (λ x. cond (ltb 96 d) (break 7 x.place) (deeper 8 (l + 1) x.place)) (c.token-in-ProcWord.ensures s _ j.left_shown) (c.in_err-procedure-in-ProcWord.ensures d l k)))
 
 pub declarations-returns-in_err-formals-in-ProcWord : goal.declarations-returns-in_err-formals-in-ProcWord
 declarations-returns-in_err-formals-in-ProcWord t c = λ s u d l h k.
     let j = c.in-Join.ensures.shown s u h in
-    by (declarations_procedure _ _ _ _ _ j.whole c.in-ProcWord.is) (passes (at_place (λ p. cond (ltb 96 d) (break 7 p) (deeper 8 (l + 1) p)) (ap (λ x. x.place) (c.token-in-ProcWord.ensures s _ j.left_shown)) (c.in_ok-procedure-in-ProcWord.ensures d l k)) (stops _ c.from_residual-in_err-formals-in-ProcWord.ensures.1 (c.in_err-formals-in-ProcWord.ensures s _ _ l (c.part-in-ProcWord.ensures.leads s _ j.left_shown) (c.deeper-in-ProcWord.ensures d l k))))
+    by (declarations_procedure _ _ _ _ _ j.whole c.in-ProcWord.is) (passes (at_token (λ x. cond (ltb 96 d) (break 7 x.place) (deeper 8 (l + 1) x.place)) (c.token-in-ProcWord.ensures s _ j.left_shown) (c.in_ok-procedure-in-ProcWord.ensures d l k)) (stops _ c.from_residual-in_err-formals-in-ProcWord.ensures.1 (c.in_err-formals-in-ProcWord.ensures s _ _ l (c.part-in-ProcWord.ensures.leads s _ j.left_shown) (c.deeper-in-ProcWord.ensures d l k))))
 
 pub declarations-returns-in_ok-formals-in-ProcWord : goal.declarations-returns-in_ok-formals-in-ProcWord
 declarations-returns-in_ok-formals-in-ProcWord t c = λ s u d l h k.
     let j = c.in-Join.ensures.shown s u h in
-    by (declarations_procedure _ _ _ _ _ j.whole c.in-ProcWord.is) (passes (at_place (λ p. cond (ltb 96 d) (break 7 p) (deeper 8 (l + 1) p)) (ap (λ x. x.place) (c.token-in-ProcWord.ensures s _ j.left_shown)) (c.in_ok-procedure-in-ProcWord.ensures d l k)) (passes (c.in_ok-formals-in-ProcWord.ensures s _ _ l (c.part-in-ProcWord.ensures.leads s _ j.left_shown) (c.deeper-in-ProcWord.ensures d l k)) (ends (c.block.ensures s _ _ _ j.right_shown (c.inside.ensures _ l (c.deeper-in-ProcWord-2.ensures d l k))))))
+    by (declarations_procedure _ _ _ _ _ j.whole c.in-ProcWord.is) (passes (at_token (λ x. cond (ltb 96 d) (break 7 x.place) (deeper 8 (l + 1) x.place)) (c.token-in-ProcWord.ensures s _ j.left_shown) (c.in_ok-procedure-in-ProcWord.ensures d l k)) (passes (c.in_ok-formals-in-ProcWord.ensures s _ _ l (c.part-in-ProcWord.ensures.leads s _ j.left_shown) (c.deeper-in-ProcWord.ensures d l k)) (ends (c.block.ensures s _ _ _ j.right_shown (c.inside.ensures _ l (c.deeper-in-ProcWord-2.ensures d l k))))))
 
 pub statements-returns-in_err-statements-in-Semicolon : goal.statements-returns-in_err-statements-in-Semicolon
 statements-returns-in_err-statements-in-Semicolon t c = λ s u d l h k.
@@ -126,12 +126,12 @@ statements-returns-in_err-node-in_default-kind t c = λ s u d l h k.
 pub statements-returns-in_err-node-in_default-kind-2 : goal.statements-returns-in_err-node-in_default-kind-2
 statements-returns-in_err-node-in_default-kind-2 t c = λ s u d l h k.
     let j = c.in-Join.ensures.shown s u h in
-    by (statements_call _ _ _ _ _ j.whole c.in_default-kind.not-DoubleAmpersand c.in_default-kind.not-Semicolon c.in_default-kind.not-IfWord c.in_default-kind.not-WhileWord) (passes (c.in_ok-node-in_default-kind.ensures d l k) (stops _ c.from_residual-in_err-node-in_default-kind-2.ensures.1 (at_place (deeper 96 (d + 1)) (ap (λ x. x.place) (c.token.ensures s _ j.left_shown)) (c.in_err-node-in_default-kind-2.ensures _ l (c.deeper-in_default-kind.ensures d l k)))))
+    by (statements_call _ _ _ _ _ j.whole c.in_default-kind.not-DoubleAmpersand c.in_default-kind.not-Semicolon c.in_default-kind.not-IfWord c.in_default-kind.not-WhileWord) (passes (c.in_ok-node-in_default-kind.ensures d l k) (stops _ c.from_residual-in_err-node-in_default-kind-2.ensures.1 (at_token (λ x. deeper 96 (d + 1) x.place) (c.token.ensures s _ j.left_shown) (c.in_err-node-in_default-kind-2.ensures _ l (c.deeper-in_default-kind.ensures d l k)))))
 
 pub statements-returns-in_ok-node-in_default-kind-2 : goal.statements-returns-in_ok-node-in_default-kind-2
 statements-returns-in_ok-node-in_default-kind-2 t c = λ s u d l h k.
     let j = c.in-Join.ensures.shown s u h in
-    by (statements_call _ _ _ _ _ j.whole c.in_default-kind.not-DoubleAmpersand c.in_default-kind.not-Semicolon c.in_default-kind.not-IfWord c.in_default-kind.not-WhileWord) (passes (c.in_ok-node-in_default-kind.ensures d l k) (passes (at_place (deeper 96 (d + 1)) (ap (λ x. x.place) (c.token.ensures s _ j.left_shown)) (c.in_ok-node-in_default-kind-2.ensures _ l (c.deeper-in_default-kind.ensures d l k))) (ends (c.arguments.ensures s _ _ l j.right_shown (c.deeper-in_default-kind-2.ensures d l k)))))
+    by (statements_call _ _ _ _ _ j.whole c.in_default-kind.not-DoubleAmpersand c.in_default-kind.not-Semicolon c.in_default-kind.not-IfWord c.in_default-kind.not-WhileWord) (passes (c.in_ok-node-in_default-kind.ensures d l k) (passes (at_token (λ x. deeper 96 (d + 1) x.place) (c.token.ensures s _ j.left_shown) (c.in_ok-node-in_default-kind-2.ensures _ l (c.deeper-in_default-kind.ensures d l k))) (ends (c.arguments.ensures s _ _ l j.right_shown (c.deeper-in_default-kind-2.ensures d l k)))))
 
 pub statements-returns-in_default : goal.statements-returns-in_default
 statements-returns-in_default t c = λ s u d l h k.

@@ -3,7 +3,7 @@ use Rattle.std.proofs.lemmas.Slice.Eq.{slice_eq-Decides, compares_Decides}
 use Rattle.std.proofs.lemmas.Bool.Decides.{same_from_decides, Decides-eqb}
 use Rattle.meaning.specs.Types.{same_name}
 use Rattle.checks.specs.Names.{text_of}
-use Rattle.checks.proofs.names.is_same.Goals as goal
+use Rattle.checks.proofs.names.spelled_alike.Goals as goal
 
 pub returns : goal.returns
 returns c =
