@@ -1,6 +1,5 @@
 -- The breaks of depth of each shape of tree, in the order in which the pass comes to them.
-use Rattle.std.proofs.Common.{◌≡◌, ℕ, suc, ◌+◌, Bool, true, false, cond, eqb, ltb, List, [], ◌∷◌, ◌++◌, sym, refl, ap, ◌∙◌, append_assoc, append-nil, add-one, arith}
-use Rattle.std.proofs.lemmas.Bool.{eqb-true}
+use Rattle.std.proofs.Common.{◌≡◌, ℕ, suc, ◌+◌, Bool, true, false, cond, ltb, List, [], ◌∷◌, ◌++◌, ◌⊎◌, sym, refl, ap, ◌∙◌, append_assoc, append-nil, add-one, arith}
 use Rattle.tiny.specs.declared.tokens.Kind.TheVariants.{Name, TypeWord, ProcWord, IfWord, WhileWord, ReadWord, WriteWord, Open, Semicolon, Becomes, Index, Dot, Comma, DoubleAmpersand, At}
 use Rattle.tiny.specs.Token.{Token, is, code}
 use Rattle.tiny.specs.Tree.{TypeTree, Fields, Expression, Formals, Statement, Statements, DeclarationTrees}
@@ -9,32 +8,26 @@ use Rattle.syntax.specs.Shape.Tree.{leaf, under, join}
 use Rattle.syntax.specs.View.{expression, type_tree, fields, formals, by_reference, part_of, expressions, arguments, declarations, statements, branches, block}
 use Rattle.meaning.specs.Stages.{Break, break, deeper, deep, deep_type, deep_fields, deep_formals, deep_all, deep_statement, deep_statements, deep_declarations, deep_block}
 use Rattle.checks.specs.Depth.{deep_branches}
-use Rattle.checks.proofs.Steps.{Made, made}
+use Rattle.tiny.specs.declared.tokens.Lexeme.{Lexeme}
+use Rattle.tiny.specs.declared.placed.Placed.{Placed}
+use Rattle.nodes.specs.declared.subtree.Subtree.{Subtree}
+use Rattle.nodes.specs.declared.subtree.Shape.{Shape}
+use Rattle.nodes.specs.declared.subtree.Shape.TheVariants.{Join}
+use Rattle.nodes.specs.Subtrees.{Shaped}
+use Rattle.nodes.proofs.KindTests.{is_kind, is_other}
+use Rattle.nodes.proofs.Shapes.{unjoined}
+use Rattle.checks.proofs.Choices.{along, same, behind, three, apart, no_mark, one_word}
+use Rattle.checks.proofs.Steps.{Made, made, taken, left}
 use Rattle.checks.proofs.Steps.Plan.{done, last, next, pick}
-
--- a function of what a test picks
-along : {X Y : Type 0} (f : X → Y) (b : Bool) (x y : X) → f (cond b x y) ≡ cond b (f x) (f y)
-along f true x y = refl
-along f false x y = refl
-
-same : {X : Type 0} (b : Bool) (x : X) → cond b x x ≡ x
-same true x = refl
-same false x = refl
 
 -- Expressions
 
 deep_cond : (b : Bool) (x y : Expression) (d : ℕ) → deep (cond b x y) d ≡ cond b (deep x d) (deep y d)
 deep_cond b x y d = along (λ e. deep e d) b x y
 
-pub deep_leaf : {u : Tree} (t : Token) (d : ℕ) → u ≡ leaf t → Made (deep (expression u) d) (last (deeper 96 d t.place))
-deep_leaf t d e = made (ap (λ x. deep (expression x) d) e ∙ simp (deep_cond, same))
-
 pub deep_under : {u : Tree} (t : Token) (e : Tree) (d : ℕ) → u ≡ under t e →
     Made (deep (expression u) d) (next (deeper 96 d t.place) (last (deep (expression e) (d + 1))))
 deep_under t e d w = made (ap (λ x. deep (expression x) d) w ∙ simp add-one)
-
-apart : (k m n : ℕ) → eqb m n ≡ false → eqb k m ≡ true → eqb k n ≡ false
-apart k m n h e = let s : k ≡ m = eqb-true k m e in rw s h
 
 join_ways : (b c d : Bool) (A B C : List Break) → (b ≡ true → d ≡ false) → (c ≡ true → d ≡ false) →
     cond b (A ++ (B ++ C)) (cond c (A ++ (B ++ C)) (cond d (A ++ B) (A ++ (B ++ C)))) ≡ A ++ (B ++ cond d [] C)
@@ -93,9 +86,6 @@ fields_join t f r d w = made (ap (λ x. deep_fields (fields x Fields.no_field) d
 deep_formals_cond : (b : Bool) (x y : Formals) (d : ℕ) → deep_formals (cond b x y) d ≡ cond b (deep_formals x d) (deep_formals y d)
 deep_formals_cond b x y d = along (λ e. deep_formals e d) b x y
 
-behind : (b : Bool) (x y z : List Break) → cond b x y ++ z ≡ cond b (x ++ z) (y ++ z)
-behind b x y z = along (λ e. e ++ z) b x y
-
 spread_formals : (t : Tree) (more : Formals) (d : ℕ) → deep_formals (formals t more) d ≡ deep_formals (formals t Formals.no_formal) d ++ deep_formals more d
 spread_formals (leaf t) more d = refl
 spread_formals (under t e) more d = simp (deep_formals_cond, behind, append_assoc, append-nil, spread_formals e more d)
@@ -134,6 +124,12 @@ all_join t l r d w =
     ∙ along (λ es. deep_all es d) (is t.kind Comma) (expression l ∷ expressions r) (expression (join t l r) ∷ [])
     ∙ ap (λ x. cond (is t.kind Comma) (deep (expression l) d ++ deep_all (expressions r) d) x)
     (append-nil (deep (expression (join t l r)) d) ∙ ap (λ x. deep (expression x) d) (sym w)))
+
+-- what is not two arguments
+pub all_rest : (source : List ℕ) (x : Shape) (u : Tree) (d : ℕ) → ((k : Placed Lexeme) (a b : Subtree) → x ≡ Join k a b → ⊥) → Shaped source x u →
+    Made (deep_all (expressions u) d) (last (deep (expression u) d))
+all_rest source x u d n h =
+    unjoined source x u h (λ v. Made (deep_all (expressions v) d) (last (deep (expression v) d))) n (λ t. all_leaf t d refl) (λ t e. all_under t e d refl)
 
 pub arguments_leaf : {u : Tree} (t : Token) (d : ℕ) → u ≡ leaf t → Made (deep_all (arguments u) d) done
 arguments_leaf t d w = made (ap (λ x. deep_all (arguments x) d) w)
@@ -182,6 +178,30 @@ declarations_join t a b d l w =
     made (ap (λ x. deep_declarations (declarations x DeclarationTrees.no_declaration) d l) w
     ∙ simp (deep_declarations_cond, add-one, append-nil, spread_declarations a (declarations b DeclarationTrees.no_declaration) d l))
 
+module _ {u : Tree} (t : Token) (e : Tree) (d l : ℕ) (w : u ≡ under t e) where
+  pub declarations_type : t.kind ≡ TypeWord →
+      Made (deep_declarations (declarations u DeclarationTrees.no_declaration) d l)
+      (next (deep_type (type_tree (part_of e)) (d + 1)) (last (deeper 96 d (token_of e).place)))
+  declarations_type k = taken (left (declarations_under t e d l w) (ap (λ k. is k DoubleAmpersand) k)) (is_kind k)
+
+  pub declarations_variable : t.kind ≡ Name →
+      Made (deep_declarations (declarations u DeclarationTrees.no_declaration) d l) (next (deep_type (type_tree e) (d + 1)) (last (deeper 96 d t.place)))
+  declarations_variable k =
+      taken (left (left (declarations_under t e d l w) (ap (λ k. is k DoubleAmpersand) k)) (ap (λ k. is k TypeWord) k)) (is_kind k)
+
+module _ {u : Tree} (t : Token) (a b : Tree) (d l : ℕ) (w : u ≡ join t a b) where
+  pub declarations_two : t.kind ≡ Semicolon →
+      Made (deep_declarations (declarations u DeclarationTrees.no_declaration) d l)
+      (next (deep_declarations (declarations a DeclarationTrees.no_declaration) d l) (last (deep_declarations (declarations b DeclarationTrees.no_declaration) d l)))
+  declarations_two k = taken (left (declarations_join t a b d l w) (ap (λ k. is k DoubleAmpersand) k)) (is_kind k)
+
+  pub declarations_procedure : t.kind ≡ ProcWord →
+      Made (deep_declarations (declarations u DeclarationTrees.no_declaration) d l)
+      (next (cond (ltb 96 d) (break 7 (token_of a).place) (deeper 8 (l + 1) (token_of a).place))
+      (next (deep_formals (formals (part_of a) Formals.no_formal) (d + 1)) (last (deep_block (block b) (d + 1) (l + 1)))))
+  declarations_procedure k =
+      taken (left (left (declarations_join t a b d l w) (ap (λ k. is k DoubleAmpersand) k)) (ap (λ k. is k Semicolon) k)) (is_kind k)
+
 deep_statement_cond : (b : Bool) (x y : Statement) (d l : ℕ) → deep_statement (cond b x y) d l ≡ cond b (deep_statement x d l) (deep_statement y d l)
 deep_statement_cond b x y d l = along (λ e. deep_statement e d l) b x y
 
@@ -205,12 +225,6 @@ statements_leaf t d l w =
 block_here : {u v : Tree} (d l : ℕ) → u ≡ v → deep_block (block v) d l ≡ deep_block (block u) d l
 block_here d l w = ap (λ x. deep_block (block x) d l) (sym w)
 
--- three tests that take the same way
-three : {X : Type 0} (a b c : Bool) (x y : X) → cond a x (cond b x (cond c x y)) ≡ cond (cond a true (cond b true c)) x y
-three true b c x y = refl
-three false true c x y = refl
-three false false c x y = refl
-
 under_is : (t : Token) (e : Tree) (d l : ℕ) →
     deep_statements (statements (under t e) Statements.no_statement) d l ≡
     cond (is t.kind DoubleAmpersand) [] (cond (cond (is t.kind At) true (cond (is t.kind ReadWord) true (is t.kind WriteWord)))
@@ -232,23 +246,48 @@ if_is (leaf t) p e d l = refl
 if_is (under t c) p e d l = refl
 if_is (join t a b) p e d l = refl
 
--- what all ways have in front
-shared : (b : Bool) (A B C : List Break) → cond b (A ++ B) (A ++ C) ≡ A ++ cond b B C
-shared true A B C = refl
-shared false A B C = refl
-
 pub statements_join : {u : Tree} (t : Token) (a b : Tree) (d l : ℕ) → u ≡ join t a b →
     Made (deep_statements (statements u Statements.no_statement) d l)
     (pick (is t.kind DoubleAmpersand) (last (deep_statements (statements b Statements.no_statement) d l))
     (pick (is t.kind Semicolon)
     (next (deep_statements (statements a Statements.no_statement) d l) (last (deep_statements (statements b Statements.no_statement) d l)))
-    (next (deeper 96 d t.place)
-    (pick (is t.kind IfWord) (next (deep (expression a) (d + 1)) (last (deep_branches b (d + 1) l)))
-    (pick (is t.kind WhileWord) (next (deep (expression a) (d + 1)) (last (deep_block (block b) (d + 1) l)))
-    (next (deeper 96 (d + 1) (token_of a).place) (last (deep_all (arguments b) (d + 1)))))))))
+    (pick (is t.kind IfWord) (next (deeper 96 d t.place) (next (deep (expression a) (d + 1)) (last (deep_branches b (d + 1) l))))
+    (pick (is t.kind WhileWord) (next (deeper 96 d t.place) (next (deep (expression a) (d + 1)) (last (deep_block (block b) (d + 1) l))))
+    (next (deeper 96 d t.place) (next (deeper 96 (d + 1) (token_of a).place) (last (deep_all (arguments b) (d + 1)))))))))
 statements_join t a b d l w =
     made (ap (λ x. deep_statements (statements x Statements.no_statement) d l) w
-    ∙ simp (deep_statements_cond, deep_statement_cond, append-nil, add-one, spread_statements a (statements b Statements.no_statement) d l, if_is b t.place (expression a) d l, shared))
+    ∙ simp (deep_statements_cond, deep_statement_cond, append-nil, add-one, spread_statements a (statements b Statements.no_statement) d l, if_is b t.place (expression a) d l))
+
+module _ {u : Tree} (t : Token) (a b : Tree) (d l : ℕ) (w : u ≡ join t a b) where
+  pub statements_two : t.kind ≡ Semicolon →
+      Made (deep_statements (statements u Statements.no_statement) d l)
+      (next (deep_statements (statements a Statements.no_statement) d l) (last (deep_statements (statements b Statements.no_statement) d l)))
+  statements_two k = taken (left (statements_join t a b d l w) (ap (λ k. is k DoubleAmpersand) k)) (is_kind k)
+
+  pub statements_if : t.kind ≡ IfWord →
+      Made (deep_statements (statements u Statements.no_statement) d l)
+      (next (deeper 96 d t.place) (next (deep (expression a) (d + 1)) (last (deep_branches b (d + 1) l))))
+  statements_if k = taken (left (left (statements_join t a b d l w) (ap (λ k. is k DoubleAmpersand) k)) (ap (λ k. is k Semicolon) k)) (is_kind k)
+
+  pub statements_while : t.kind ≡ WhileWord →
+      Made (deep_statements (statements u Statements.no_statement) d l)
+      (next (deeper 96 d t.place) (next (deep (expression a) (d + 1)) (last (deep_block (block b) (d + 1) l))))
+  statements_while k =
+      taken (left (left (left (statements_join t a b d l w) (ap (λ k. is k DoubleAmpersand) k)) (ap (λ k. is k Semicolon) k)) (ap (λ k. is k IfWord) k)) (is_kind k)
+
+  pub statements_call : (t.kind ≡ DoubleAmpersand → ⊥) → (t.kind ≡ Semicolon → ⊥) → (t.kind ≡ IfWord → ⊥) → (t.kind ≡ WhileWord → ⊥) →
+      Made (deep_statements (statements u Statements.no_statement) d l)
+      (next (deeper 96 d t.place) (next (deeper 96 (d + 1) (token_of a).place) (last (deep_all (arguments b) (d + 1)))))
+  statements_call f g h i = left (left (left (left (statements_join t a b d l w) (is_other f)) (is_other g)) (is_other h)) (is_other i)
+
+module _ {u : Tree} (t : Token) (e : Tree) (d l : ℕ) (w : u ≡ under t e) where
+  pub statements_word : (t.kind ≡ At) ⊎ ((t.kind ≡ ReadWord) ⊎ (t.kind ≡ WriteWord)) →
+      Made (deep_statements (statements u Statements.no_statement) d l) (next (deeper 96 d t.place) (last (deep (expression e) (d + 1))))
+  statements_word k = taken (left (statements_under t e d l w) (no_mark k)) (one_word k)
+
+  pub statements_block : (t.kind ≡ DoubleAmpersand → ⊥) → (t.kind ≡ At → ⊥) → (t.kind ≡ ReadWord → ⊥) → (t.kind ≡ WriteWord → ⊥) →
+      Made (deep_statements (statements u Statements.no_statement) d l) (last (deep_block (block u) d l))
+  statements_block f g h i = left (left (statements_under t e d l w) (is_other f)) (rw (is_other g, is_other h, is_other i))
 
 pub branches_leaf : {u : Tree} (t : Token) (d l : ℕ) → u ≡ leaf t → Made (deep_branches u d l) (last (deep_block (block u) d l))
 branches_leaf t d l w = made (ap (λ x. deep_branches x d l) w ∙ block_here d l w)
@@ -259,6 +298,12 @@ branches_under t e d l w = made (ap (λ x. deep_branches x d l) w ∙ block_here
 pub branches_join : {u : Tree} (t : Token) (a b : Tree) (d l : ℕ) → u ≡ join t a b →
     Made (deep_branches u d l) (next (deep_block (block a) d l) (last (deep_block (block b) d l)))
 branches_join t a b d l w = made (ap (λ x. deep_branches x d l) w)
+
+-- what is not two blocks
+pub branches_rest : (source : List ℕ) (x : Shape) (u : Tree) (d l : ℕ) → ((k : Placed Lexeme) (a b : Subtree) → x ≡ Join k a b → ⊥) → Shaped source x u →
+    Made (deep_branches u d l) (last (deep_block (block u) d l))
+branches_rest source x u d l n h =
+    unjoined source x u h (λ v. Made (deep_branches v d l) (last (deep_block (block v) d l))) n (λ t. branches_leaf t d l refl) (λ t e. branches_under t e d l refl)
 
 pub block_leaf : {u : Tree} (t : Token) (d l : ℕ) → u ≡ leaf t → Made (deep_block (block u) d l) (last (deeper 96 d t.place))
 block_leaf t d l w = made (ap (λ x. deep_block (block x) d l) w ∙ append-nil (deeper 96 d t.place))

@@ -1,60 +1,51 @@
--- Laws of the names in a table.
-use Rattle.std.proofs.Common.{◌≡◌, ℕ, zero, suc, ◌+◌, ◌-◌, ◌<◌, ◌≤◌, min, Bool, true, false, cond, List, [], length, take, drop, Some, None, Option, sym, refl, ap, ◌∙◌, ⊎_elim, arith, length-drop}
-use Rattle.std.proofs.lemmas.List.{take_all, drop_all}
-use Rattle.std.proofs.lemmas.Bool.{cases_lt}
+-- Whether a name is held, by the names in their order.
+use Rattle.std.proofs.Common.{◌≡◌, ℕ, zero, suc, ◌+◌, ◌≤◌, ◌<◌, Bool, true, false, cond, List, [], ◌∷◌, ◌++◌, ◌||◌, length, take, drop, Some, None, Option, refl, sym, ap, ◌∙◌, le_of_suc-le-suc, not-suc-le-zero, arith, length-drop}
+use Rattle.std.proofs.lemmas.List.{reverse-append}
+use mathlib.Core.List.{reverse}
+use Rattle.std.specs.List.{list_any}
 use Rattle.tiny.specs.Tree.{Name}
 use Rattle.meaning.specs.Types.{same_name}
 use Rattle.tables.specs.Items.{item_at}
 use Rattle.checks.specs.declared.names.NameRecord.{NameRecord}
 use Rattle.checks.specs.Names.{text_of, held}
 
--- a stretch cut off at the end of the source
-pub clipped : (s : List ℕ) (p e m : ℕ) → m ≡ min e (length s) → take (m - p) (drop p s) ≡ take (e - p) (drop p s)
-clipped s p e m h =
-    ⊎_elim
-    (λ (k : length s < e). take_all (m - p) (drop p s) (simp length-drop (omega arith)) ∙ sym (take_all (e - p) (drop p s) (simp length-drop (omega arith))))
-    (λ (k : e ≤ length s). let same : m ≡ e = omega arith in ap (λ x. take (x - p) (drop p s)) same)
-    (cases_lt (length s) e)
-
-pub beyond : (s : List ℕ) (p e : ℕ) → min e (length s) ≤ p → take (e - p) (drop p s) ≡ []
-beyond s p e h =
-    ⊎_elim
-    (λ (k : p < length s). let none : e - p ≡ 0 = omega arith in ap (λ x. take x (drop p s)) none)
-    (λ (k : length s ≤ p). let none = drop_all p s k in ap (λ x. take (e - p) x) none ∙ take_none (e - p))
-    (cases_lt p (length s))
-  where
-    take_none : (n : ℕ) → take {A = ℕ} n [] ≡ []
-    take_none zero = refl
-    take_none (suc n) = refl
-
 -- what the last name says
 abbrev next_held : List ℕ → Name → Bool → Option NameRecord → Bool
 next_held source x b o = elim o [ Some r ↦ cond (same_name x (text_of source r)) true b | None ↦ false ]
 
-pub held_none : (source : List ℕ) (rs : List NameRecord) (start k : ℕ) (x : Name) → None ≡ item_at rs (start + k) → held source rs start (suc k) x ≡ false
-held_none source rs start k x e = ap (next_held source x (held source rs start k x)) (sym e)
-
 pub held_some : (source : List ℕ) (rs : List NameRecord) (start k : ℕ) (x : Name) (r : NameRecord) →
-    Some r ≡ item_at rs (start + k) → held source rs start (suc k) x ≡ cond (same_name x (text_of source r)) true (held source rs start k x)
-held_some source rs start k x r e = ap (next_held source x (held source rs start k x)) (sym e)
+    item_at rs (start + k) ≡ Some r → held source rs start (suc k) x ≡ cond (same_name x (text_of source r)) true (held source rs start k x)
+held_some source rs start k x r e = ap (next_held source x (held source rs start k x)) e
 
--- one turn down the names
-down : (source : List ℕ) (rs : List NameRecord) (start n : ℕ) (x : Name) → 0 < n → held source rs start n x ≡ held source rs start (suc (n - 1)) x
-down source rs start n x h = let e : n ≡ suc (n - 1) = omega arith in ap (λ m. held source rs start m x) e
+-- the item behind the first n
+record Next (xs : List NameRecord) (n : ℕ) : Type 0 where
+  item : NameRecord
+  here : item_at xs n ≡ Some item
+  more : take (suc n) xs ≡ take n xs ++ (item ∷ [])
 
-pub turn_none : (source : List ℕ) (rs : List NameRecord) (start n : ℕ) (x : Name) → 0 < n → None ≡ item_at rs (start + (n - 1)) → held source rs start n x ≡ false
-turn_none source rs start n x h e = down source rs start n x h ∙ held_none source rs start (n - 1) x e
+next : (xs : List NameRecord) (n : ℕ) → n < length xs → Next xs n
+next [] n h = absurd (not-suc-le-zero h)
+next (x ∷ xs) zero h = record { item = x; here = refl; more = refl }
+next (x ∷ xs) (suc n) h =
+    let k = next xs n (le_of_suc-le-suc h) in record { item = k.item; here = k.here; more = ap (λ ys. x ∷ ys) k.more }
 
-pub turn_same : (source : List ℕ) (rs : List NameRecord) (start n : ℕ) (x y : Name) (r : NameRecord) →
-    0 < n → Some r ≡ item_at rs (start + (n - 1)) → y ≡ text_of source r → true ≡ same_name x y → held source rs start n x ≡ true
-turn_same source rs start n x y r h e f g =
-    down source rs start n x h
-    ∙ held_some source rs start (n - 1) x r e
-    ∙ ap (λ b. cond b true (held source rs start (n - 1) x)) (sym (g ∙ ap (same_name x) f))
+dropped : (rs : List NameRecord) (start k : ℕ) → item_at (drop start rs) k ≡ item_at rs (start + k)
+dropped rs zero k = let e : 0 + k ≡ k = omega arith in ap (item_at rs) (sym e)
+dropped [] (suc start) k = let e : suc start + k ≡ suc (start + k) = omega arith in ap (item_at []) (sym e)
+dropped (r ∷ rs) (suc start) k = let e : suc start + k ≡ suc (start + k) = omega arith in dropped rs start k ∙ ap (item_at (r ∷ rs)) (sym e)
 
-pub turn_other : (source : List ℕ) (rs : List NameRecord) (start n : ℕ) (x y : Name) (r : NameRecord) →
-    0 < n → Some r ≡ item_at rs (start + (n - 1)) → y ≡ text_of source r → false ≡ same_name x y → held source rs start n x ≡ held source rs start (n - 1) x
-turn_other source rs start n x y r h e f g =
-    down source rs start n x h
-    ∙ held_some source rs start (n - 1) x r e
-    ∙ ap (λ b. cond b true (held source rs start (n - 1) x)) (sym (g ∙ ap (same_name x) f))
+-- a search of a stretch of names, the last first
+pub held_any : (source : List ℕ) (rs : List NameRecord) (start k : ℕ) (x : Name) → start + k ≤ length rs →
+    list_any (λ r. same_name x (text_of source r)) (reverse (take k (drop start rs))) ≡ held source rs start k x
+held_any source rs start zero x h = refl
+held_any source rs start (suc k) x h =
+    let n = next (drop start rs) k (simp length-drop (omega arith)) in
+    let test : NameRecord → Bool = λ (r : NameRecord). same_name x (text_of source r) in
+    ap (λ ys. list_any test (reverse ys)) n.more
+    ∙ ap (list_any test) (reverse-append (take k (drop start rs)) (n.item ∷ []))
+    ∙ either (test n.item) (held_any source rs start k x (omega arith))
+    ∙ sym (held_some source rs start k x n.item (sym (dropped rs start k) ∙ n.here))
+  where
+    either : {b c : Bool} (a : Bool) → b ≡ c → a || b ≡ cond a true c
+    either true e = refl
+    either false e = e

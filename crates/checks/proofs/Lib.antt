@@ -1,9 +1,7 @@
-pub mod Shown
-pub mod Steps
+pub mod Choices
 pub mod DepthViews
-pub mod Ready
 pub mod Held
 pub mod NamesViews
-pub mod Scopes
 pub mod Room
-pub mod Stages
+pub mod Scopes
+pub mod Steps

@@ -1,6 +1,5 @@
 -- The breaks of names of each shape of tree, in the order in which the pass comes to them.
-use Rattle.std.proofs.Common.{◌≡◌, ℕ, Bool, true, false, cond, eqb, List, [], ◌∷◌, ◌++◌, sym, refl, ap, ◌∙◌, append_assoc, append-nil, arith}
-use Rattle.std.proofs.lemmas.Bool.{eqb-true}
+use Rattle.std.proofs.Common.{◌≡◌, ℕ, Bool, true, false, cond, List, [], ◌∷◌, ◌++◌, ◌⊎◌, sym, refl, ap, ◌∙◌, append_assoc, append-nil, arith}
 use Rattle.tiny.specs.declared.tokens.Kind.TheVariants.{Name, TypeWord, ProcWord, IfWord, WhileWord, ReadWord, WriteWord, Open, Semicolon, Becomes, Index, Dot, Comma, DoubleAmpersand, At}
 use Rattle.tiny.specs.Token.{Token, is, code}
 use Rattle.tiny.specs.Tree as Tiny
@@ -12,31 +11,22 @@ use Rattle.meaning.specs.Stages as Stages
 use Rattle.meaning.specs.Stages.{Break, undeclared, twice, innermost, added, names, names_all, names_type, names_fields, names_formals, open_formals, names_statement, names_statements, names_declarations, names_block, open_declarations}
 use Rattle.checks.specs.Branches.{names_branches}
 use Rattle.checks.specs.Declares.{open_fields, names_procedure}
-use Rattle.checks.proofs.Steps.{Made, made}
+use Rattle.tiny.specs.declared.tokens.Lexeme.{Lexeme}
+use Rattle.tiny.specs.declared.placed.Placed.{Placed}
+use Rattle.nodes.specs.declared.subtree.Subtree.{Subtree}
+use Rattle.nodes.specs.declared.subtree.Shape.{Shape}
+use Rattle.nodes.specs.declared.subtree.Shape.TheVariants.{Join as TwoParted}
+use Rattle.nodes.specs.Subtrees.{Shaped}
+use Rattle.nodes.proofs.KindTests.{is_kind, is_other}
+use Rattle.nodes.proofs.Shapes.{unjoined}
+use Rattle.checks.proofs.Choices.{along, same, behind, three, apart, no_mark, one_word}
+use Rattle.checks.proofs.Steps.{Made, made, taken, left}
 use Rattle.checks.proofs.Steps.Plan.{done, last, next, pick}
-
-along : {X Y : Type 0} (f : X → Y) (b : Bool) (x y : X) → f (cond b x y) ≡ cond b (f x) (f y)
-along f true x y = refl
-along f false x y = refl
-
-same : {X : Type 0} (b : Bool) (x : X) → cond b x x ≡ x
-same true x = refl
-same false x = refl
 
 -- Expressions
 
 names_cond : (b : Bool) (x y : Expression) (Δ : Stages.Open) → names (cond b x y) Δ ≡ cond b (names x Δ) (names y Δ)
 names_cond b x y Δ = along (λ e. names e Δ) b x y
-
-pub names_leaf : {u : Tree} (t : Token) (Δ : Stages.Open) → u ≡ leaf t →
-    Made (names (expression u) Δ) (pick (is t.kind Name) (last (undeclared Δ t.place t.text)) done)
-names_leaf t Δ w = made (ap (λ x. names (expression x) Δ) w ∙ simp (names_cond, same))
-
-pub names_under : {u : Tree} (t : Token) (e : Tree) (Δ : Stages.Open) → u ≡ under t e → Made (names (expression u) Δ) (last (names (expression e) Δ))
-names_under t e Δ w = made (ap (λ x. names (expression x) Δ) w)
-
-apart : (k m n : ℕ) → eqb m n ≡ false → eqb k m ≡ true → eqb k n ≡ false
-apart k m n h e = let s : k ≡ m = eqb-true k m e in rw s h
 
 join_ways : (b c d : Bool) (A C : List Break) → (b ≡ true → d ≡ false) → (c ≡ true → d ≡ false) →
     cond b (A ++ C) (cond c (A ++ C) (cond d A (A ++ C))) ≡ A ++ cond d [] C
@@ -68,6 +58,12 @@ all_join t l r Δ w =
     ∙ along (λ es. names_all es Δ) (is t.kind Comma) (expression l ∷ expressions r) (expression (join t l r) ∷ [])
     ∙ ap (λ x. cond (is t.kind Comma) (names (expression l) Δ ++ names_all (expressions r) Δ) x)
     (append-nil (names (expression (join t l r)) Δ) ∙ ap (λ x. names (expression x) Δ) (sym w)))
+
+-- what is not two arguments
+pub all_rest : (source : List ℕ) (x : Shape) (u : Tree) (Δ : Stages.Open) → ((k : Placed Lexeme) (a b : Subtree) → x ≡ TwoParted k a b → ⊥) → Shaped source x u →
+    Made (names_all (expressions u) Δ) (last (names (expression u) Δ))
+all_rest source x u Δ n h =
+    unjoined source x u h (λ v. Made (names_all (expressions v) Δ) (last (names (expression v) Δ))) n (λ t. all_leaf t Δ refl) (λ t e. all_under t e Δ refl)
 
 pub arguments_leaf : {u : Tree} (t : Token) (Δ : Stages.Open) → u ≡ leaf t → Made (names_all (arguments u) Δ) done
 arguments_leaf t Δ w = made (ap (λ x. names_all (arguments x) Δ) w)
@@ -134,9 +130,6 @@ names_formals_cond b x y Δ = along (λ e. names_formals e Δ) b x y
 
 open_formals_cond : (b : Bool) (x y : Formals) (Δ : Stages.Open) → open_formals (cond b x y) Δ ≡ cond b (open_formals x Δ) (open_formals y Δ)
 open_formals_cond b x y Δ = along (λ e. open_formals e Δ) b x y
-
-behind : (b : Bool) (x y z : List Break) → cond b x y ++ z ≡ cond b (x ++ z) (y ++ z)
-behind b x y z = along (λ e. e ++ z) b x y
 
 pub opened_formals : (t : Tree) (more : Formals) (Δ : Stages.Open) → open_formals (formals t more) Δ ≡ open_formals more (open_formals (formals t Formals.no_formal) Δ)
 opened_formals (leaf t) more Δ = refl
@@ -307,6 +300,26 @@ declarations_join t l r Δ w =
     made (ap (λ x. names_declarations (declarations x DeclarationTrees.no_declaration) Δ) w
     ∙ simp (names_declarations_cond, append-nil, spread_declarations l (declarations r DeclarationTrees.no_declaration) Δ))
 
+module _ {u : Tree} (t : Token) (e : Tree) (Δ : Stages.Open) (w : u ≡ under t e) where
+  pub declarations_type : t.kind ≡ TypeWord →
+      Made (names_declarations (declarations u DeclarationTrees.no_declaration) Δ)
+      (next (names_type (type_tree (part_of e)) Δ) (last (twice (innermost Δ) (token_of e).place (token_of e).text)))
+  declarations_type k = taken (left (declarations_under t e Δ w) (ap (λ k. is k DoubleAmpersand) k)) (is_kind k)
+
+  pub declarations_variable : t.kind ≡ Name →
+      Made (names_declarations (declarations u DeclarationTrees.no_declaration) Δ) (next (names_type (type_tree e) Δ) (last (twice (innermost Δ) t.place t.text)))
+  declarations_variable k = taken (left (left (declarations_under t e Δ w) (ap (λ k. is k DoubleAmpersand) k)) (ap (λ k. is k TypeWord) k)) (is_kind k)
+
+module _ {u : Tree} (t : Token) (a b : Tree) (Δ : Stages.Open) (w : u ≡ join t a b) where
+  pub declarations_two : t.kind ≡ Semicolon →
+      Made (names_declarations (declarations u DeclarationTrees.no_declaration) Δ)
+      (next (names_declarations (declarations a DeclarationTrees.no_declaration) Δ)
+      (last (names_declarations (declarations b DeclarationTrees.no_declaration) (open_declarations (declarations a DeclarationTrees.no_declaration) Δ))))
+  declarations_two k = taken (left (declarations_join t a b Δ w) (ap (λ k. is k DoubleAmpersand) k)) (is_kind k)
+
+  pub declarations_procedure : t.kind ≡ ProcWord → Made (names_declarations (declarations u DeclarationTrees.no_declaration) Δ) (last (names_procedure a b Δ))
+  declarations_procedure k = taken (left (left (declarations_join t a b Δ w) (ap (λ k. is k DoubleAmpersand) k)) (ap (λ k. is k Semicolon) k)) (is_kind k)
+
 -- Instructions and blocks
 
 names_statement_cond : (b : Bool) (x y : Statement) (Δ : Stages.Open) → names_statement (cond b x y) Δ ≡ cond b (names_statement x Δ) (names_statement y Δ)
@@ -329,11 +342,6 @@ statements_leaf t Δ w = made (ap (λ x. names_statements (statements x Statemen
 
 block_here : {u v : Tree} (Δ : Stages.Open) → u ≡ v → names_block (block v) Δ ≡ names_block (block u) Δ
 block_here Δ w = ap (λ x. names_block (block x) Δ) (sym w)
-
-three : {X : Type 0} (a b c : Bool) (x y : X) → cond a x (cond b x (cond c x y)) ≡ cond (cond a true (cond b true c)) x y
-three true b c x y = refl
-three false true c x y = refl
-three false false c x y = refl
 
 under_is : (t : Token) (e : Tree) (Δ : Stages.Open) →
     names_statements (statements (under t e) Statements.no_statement) Δ ≡
@@ -367,6 +375,35 @@ statements_join t a b Δ w =
     made (ap (λ x. names_statements (statements x Statements.no_statement) Δ) w
     ∙ simp (names_statements_cond, names_statement_cond, append-nil, spread_statements a (statements b Statements.no_statement) Δ, if_is b t.place (expression a) Δ))
 
+module _ {u : Tree} (t : Token) (a b : Tree) (Δ : Stages.Open) (w : u ≡ join t a b) where
+  pub statements_two : t.kind ≡ Semicolon →
+      Made (names_statements (statements u Statements.no_statement) Δ)
+      (next (names_statements (statements a Statements.no_statement) Δ) (last (names_statements (statements b Statements.no_statement) Δ)))
+  statements_two k = taken (left (statements_join t a b Δ w) (ap (λ k. is k DoubleAmpersand) k)) (is_kind k)
+
+  pub statements_if : t.kind ≡ IfWord →
+      Made (names_statements (statements u Statements.no_statement) Δ) (next (names (expression a) Δ) (last (names_branches b Δ)))
+  statements_if k = taken (left (left (statements_join t a b Δ w) (ap (λ k. is k DoubleAmpersand) k)) (ap (λ k. is k Semicolon) k)) (is_kind k)
+
+  pub statements_while : t.kind ≡ WhileWord →
+      Made (names_statements (statements u Statements.no_statement) Δ) (next (names (expression a) Δ) (last (names_block (block b) Δ)))
+  statements_while k =
+      taken (left (left (left (statements_join t a b Δ w) (ap (λ k. is k DoubleAmpersand) k)) (ap (λ k. is k Semicolon) k)) (ap (λ k. is k IfWord) k)) (is_kind k)
+
+  pub statements_call : (t.kind ≡ DoubleAmpersand → ⊥) → (t.kind ≡ Semicolon → ⊥) → (t.kind ≡ IfWord → ⊥) → (t.kind ≡ WhileWord → ⊥) →
+      Made (names_statements (statements u Statements.no_statement) Δ)
+      (next (undeclared Δ (token_of a).place (token_of a).text) (last (names_all (arguments b) Δ)))
+  statements_call f g h i = left (left (left (left (statements_join t a b Δ w) (is_other f)) (is_other g)) (is_other h)) (is_other i)
+
+module _ {u : Tree} (t : Token) (e : Tree) (Δ : Stages.Open) (w : u ≡ under t e) where
+  pub statements_word : (t.kind ≡ At) ⊎ ((t.kind ≡ ReadWord) ⊎ (t.kind ≡ WriteWord)) →
+      Made (names_statements (statements u Statements.no_statement) Δ) (last (names (expression e) Δ))
+  statements_word k = taken (left (statements_under t e Δ w) (no_mark k)) (one_word k)
+
+  pub statements_block : (t.kind ≡ DoubleAmpersand → ⊥) → (t.kind ≡ At → ⊥) → (t.kind ≡ ReadWord → ⊥) → (t.kind ≡ WriteWord → ⊥) →
+      Made (names_statements (statements u Statements.no_statement) Δ) (last (names_block (block u) Δ))
+  statements_block f g h i = left (left (statements_under t e Δ w) (is_other f)) (rw (is_other g, is_other h, is_other i))
+
 pub branches_leaf : {u : Tree} (t : Token) (Δ : Stages.Open) → u ≡ leaf t → Made (names_branches u Δ) (last (names_block (block u) Δ))
 branches_leaf t Δ w = made (ap (λ x. names_branches x Δ) w ∙ block_here Δ w)
 
@@ -376,6 +413,12 @@ branches_under t e Δ w = made (ap (λ x. names_branches x Δ) w ∙ block_here 
 pub branches_join : {u : Tree} (t : Token) (a b : Tree) (Δ : Stages.Open) → u ≡ join t a b →
     Made (names_branches u Δ) (next (names_block (block a) Δ) (last (names_block (block b) Δ)))
 branches_join t a b Δ w = made (ap (λ x. names_branches x Δ) w)
+
+-- what is not two blocks
+pub branches_rest : (source : List ℕ) (x : Shape) (u : Tree) (Δ : Stages.Open) → ((k : Placed Lexeme) (a b : Subtree) → x ≡ TwoParted k a b → ⊥) → Shaped source x u →
+    Made (names_branches u Δ) (last (names_block (block u) Δ))
+branches_rest source x u Δ n h =
+    unjoined source x u h (λ v. Made (names_branches v Δ) (last (names_block (block v) Δ))) n (λ t. branches_leaf t Δ refl) (λ t e. branches_under t e Δ refl)
 
 pub block_leaf : {u : Tree} (t : Token) (Δ : Stages.Open) → u ≡ leaf t → Made (names_block (block u) Δ) done
 block_leaf t Δ w = made (ap (λ x. names_block (block x) Δ) w)
@@ -399,21 +442,17 @@ module _ {u : Tree} (t : Token) (e : Tree) (Δ : Stages.Open) (w : u ≡ under t
       ∙ ap (λ x. open_declarations (under_tree t e DeclarationTrees.no_declaration b x (is t.kind Name)) Δ) (sym k)
       ∙ ap (λ x. open_declarations (under_tree t e DeclarationTrees.no_declaration b c x) Δ) (sym g)
 
-  pub opened_amp : true ≡ is t.kind DoubleAmpersand →
+  pub opened_amp : t.kind ≡ DoubleAmpersand →
       open_declarations (declarations u DeclarationTrees.no_declaration) Δ ≡ open_declarations (declarations e DeclarationTrees.no_declaration) Δ
-  opened_amp h = at_under true (is t.kind TypeWord) (is t.kind Name) h refl refl
+  opened_amp k = at_under true (is t.kind TypeWord) (is t.kind Name) (sym (is_kind k)) refl refl
 
-  pub opened_type : false ≡ is t.kind DoubleAmpersand → true ≡ is t.kind TypeWord →
+  pub opened_type : t.kind ≡ TypeWord →
       open_declarations (declarations u DeclarationTrees.no_declaration) Δ ≡ added (token_of e).text Δ
-  opened_type h k = at_under false true (is t.kind Name) h k refl
+  opened_type k = at_under false true (is t.kind Name) (sym (ap (λ k. is k DoubleAmpersand) k)) (sym (is_kind k)) refl
 
-  pub opened_name : false ≡ is t.kind DoubleAmpersand → false ≡ is t.kind TypeWord → true ≡ is t.kind Name →
+  pub opened_name : t.kind ≡ Name →
       open_declarations (declarations u DeclarationTrees.no_declaration) Δ ≡ added t.text Δ
-  opened_name h k g = at_under false false true h k g
-
-  pub opened_none : false ≡ is t.kind DoubleAmpersand → false ≡ is t.kind TypeWord → false ≡ is t.kind Name →
-      open_declarations (declarations u DeclarationTrees.no_declaration) Δ ≡ Δ
-  opened_none h k g = at_under false false false h k g
+  opened_name k = at_under false false true (sym (ap (λ k. is k DoubleAmpersand) k)) (sym (ap (λ k. is k TypeWord) k)) (sym (is_kind k))
 
 module _ {u : Tree} (t : Token) (l r : Tree) (Δ : Stages.Open) (w : u ≡ join t l r) where
   at_join : (b c d : Bool) → b ≡ is t.kind DoubleAmpersand → c ≡ is t.kind Semicolon → d ≡ is t.kind ProcWord →
@@ -424,20 +463,16 @@ module _ {u : Tree} (t : Token) (l r : Tree) (Δ : Stages.Open) (w : u ≡ join 
       ∙ ap (λ x. open_declarations (join_tree l r DeclarationTrees.no_declaration b x (is t.kind ProcWord)) Δ) (sym k)
       ∙ ap (λ x. open_declarations (join_tree l r DeclarationTrees.no_declaration b c x) Δ) (sym g)
 
-  pub opened_amp_join : true ≡ is t.kind DoubleAmpersand →
+  pub opened_amp_join : t.kind ≡ DoubleAmpersand →
       open_declarations (declarations u DeclarationTrees.no_declaration) Δ ≡ open_declarations (declarations l DeclarationTrees.no_declaration) Δ
-  opened_amp_join h = at_join true (is t.kind Semicolon) (is t.kind ProcWord) h refl refl
+  opened_amp_join k = at_join true (is t.kind Semicolon) (is t.kind ProcWord) (sym (is_kind k)) refl refl
 
-  pub opened_both : false ≡ is t.kind DoubleAmpersand → true ≡ is t.kind Semicolon →
+  pub opened_both : t.kind ≡ Semicolon →
       open_declarations (declarations u DeclarationTrees.no_declaration) Δ
       ≡ open_declarations (declarations r DeclarationTrees.no_declaration) (open_declarations (declarations l DeclarationTrees.no_declaration) Δ)
-  opened_both h k =
-      at_join false true (is t.kind ProcWord) h k refl ∙ opened_declarations l (declarations r DeclarationTrees.no_declaration) Δ
+  opened_both k =
+      at_join false true (is t.kind ProcWord) (sym (ap (λ k. is k DoubleAmpersand) k)) (sym (is_kind k)) refl ∙ opened_declarations l (declarations r DeclarationTrees.no_declaration) Δ
 
-  pub opened_proc : false ≡ is t.kind DoubleAmpersand → false ≡ is t.kind Semicolon → true ≡ is t.kind ProcWord →
+  pub opened_proc : t.kind ≡ ProcWord →
       open_declarations (declarations u DeclarationTrees.no_declaration) Δ ≡ added (token_of l).text Δ
-  opened_proc h k g = at_join false false true h k g
-
-  pub opened_none_join : false ≡ is t.kind DoubleAmpersand → false ≡ is t.kind Semicolon → false ≡ is t.kind ProcWord →
-      open_declarations (declarations u DeclarationTrees.no_declaration) Δ ≡ Δ
-  opened_none_join h k g = at_join false false false h k g
+  opened_proc k = at_join false false true (sym (ap (λ k. is k DoubleAmpersand) k)) (sym (ap (λ k. is k Semicolon) k)) (sym (is_kind k))

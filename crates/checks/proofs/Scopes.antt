@@ -1,39 +1,19 @@
 -- What the table of names says of the open scopes.
-use Rattle.std.proofs.Common.{◌≡◌, ℕ, zero, suc, ◌+◌, ◌-◌, ◌<◌, ◌≤◌, Bool, true, false, cond, List, [], ◌∷◌, ◌++◌, length, take, is_err, Some, None, Ok, Err, Result, sym, refl, ap, ◌∙◌, subst, le_of_suc-le-suc, not-suc-le-zero, arith}
+use Rattle.std.proofs.Common.{◌≡◌, ℕ, zero, suc, ◌+◌, ◌-◌, ◌<◌, ◌≤◌, true, false, cond, List, [], ◌∷◌, ◌++◌, length, take, is_err, Some, None, Ok, Err, Result, sym, refl, ap, ◌∙◌, subst, le_of_suc-le-suc, not-suc-le-zero, arith}
 use Rattle.tiny.specs.declared.placed.Placed.{Placed}
 use Rattle.tiny.specs.declared.tokens.Lexeme.{Lexeme}
 use Rattle.tiny.specs.Scan.{token_in}
 use Rattle.tiny.specs.Tree.{Name}
-use Rattle.nodes.specs.declared.node.Node.{Node}
-use Rattle.tables.specs.declared.table.Table.{Table}
-use Rattle.tables.specs.Items.{items, capacity, item_at}
+use Rattle.nodes.specs.declared.subtree.Subtree.{Subtree}
+use Rattle.tables.specs.Items.{item_at}
 use Rattle.meaning.specs.Types.{same_name}
-use Rattle.meaning.specs.Stages.{Open, has, known, innermost, added, undeclared, twice, break}
-use Rattle.checks.specs.declared.faults.NameCause.TheVariants.{Undeclared, Twice}
-use Rattle.checks.specs.Breaks.{Tells}
+use Rattle.meaning.specs.Stages.{Open, has, known, innermost, added}
 use Rattle.checks.specs.declared.names.NameRecord.{NameRecord}
+use Rattle.checks.specs.declared.names.Names.{Names}
 use Rattle.checks.specs.declared.scope.Scope.{Scope}
 use Rattle.checks.specs.Names.{held, text_of}
-use Rattle.checks.specs.Declares.{name_break, Inner, Declares, Keeps, Grown, Named, Proceeded, WhenOk}
+use Rattle.checks.specs.Declares.{listed, most, Inner, Declares, Keeps, Grown, Named, Proceeded, WhenOk}
 use Rattle.checks.proofs.Held.{held_some}
-
--- a name that is known is no break, another is one
-pub is_known : {X : Type 0} {x : X} (p : ℕ) (y : Name) (Δ : Open) (b : Bool) → true ≡ b → known Δ y ≡ b → Tells name_break (Ok x) (undeclared Δ p y)
-is_known {x = x} p y Δ b e k = subst (λ c. Tells name_break (Ok x) (cond c [] (break 8 p))) (e ∙ sym k) (record { first = refl })
-
-pub is_unknown : {X : Type 0} (p : ℕ) (y : Name) (Δ : Open) (b : Bool) → false ≡ b → known Δ y ≡ b →
-    Tells {X = X} name_break (Err (record { what = Undeclared; place = p })) (undeclared Δ p y)
-is_unknown {X = X} p y Δ b e k =
-    subst (λ c. Tells {X = X} name_break (Err (record { what = Undeclared; place = p })) (cond c [] (break 8 p))) (e ∙ sym k) (record { first = refl })
-
--- a name that its scope has already is a break, another is none
-pub is_twice : {X : Type 0} (p : ℕ) (y : Name) (xs : List Name) (b : Bool) → true ≡ b → has xs y ≡ b →
-    Tells {X = X} name_break (Err (record { what = Twice; place = p })) (twice xs p y)
-is_twice {X = X} p y xs b e k =
-    subst (λ c. Tells {X = X} name_break (Err (record { what = Twice; place = p })) (cond c (break 9 p) [])) (e ∙ sym k) (record { first = refl })
-
-pub is_new : {X : Type 0} {x : X} (p : ℕ) (y : Name) (xs : List Name) (b : Bool) → false ≡ b → has xs y ≡ b → Tells name_break (Ok x) (twice xs p y)
-is_new {x = x} p y xs b e k = subst (λ c. Tells name_break (Ok x) (cond c (break 9 p) [])) (e ∙ sym k) (record { first = refl })
 
 -- Answers without a break
 
@@ -52,12 +32,12 @@ with_ok h f = record { then = λ x e. f (h.then x e) }
 
 -- The first names of a table
 
-pub keeps_all : {n : ℕ} {a : Table NameRecord} → n ≤ length (items a) → Keeps n a a
-keeps_all h = record { same = λ i k. refl; within = h; room = refl }
+pub keeps_all : {n : ℕ} {a : Names} → n ≤ length (listed a) → Keeps n a a
+keeps_all h = record { text = refl; same = λ i k. refl; within = h; room = refl }
 
-pub keeps_both : {n m : ℕ} {a b c : Table NameRecord} → Keeps n a b → Keeps m b c → n ≤ m → Keeps n a c
+pub keeps_both : {n m : ℕ} {a b c : Names} → Keeps n a b → Keeps m b c → n ≤ m → Keeps n a c
 keeps_both {n = n} h k le =
-    record { same = λ i l. k.same i (omega arith) ∙ h.same i l; within = omega (arith, k.within); room = k.room ∙ h.room }
+    record { text = k.text ∙ h.text; same = λ i l. k.same i (omega arith) ∙ h.same i l; within = omega (arith, k.within); room = k.room ∙ h.room }
 
 held_same : (source : List ℕ) (ps qs : List NameRecord) (n start k : ℕ) (x : Name) → ((i : ℕ) → i < n → item_at qs i ≡ item_at ps i) → start + k ≤ n →
     held source qs start k x ≡ held source ps start k x
@@ -68,17 +48,17 @@ held_same source ps qs n start (suc k) x h le =
     ap (λ o. elim o [ Some r ↦ cond (same_name x (text_of source r)) true (held source qs start k x) | None ↦ false ]) e
     ∙ ap (λ b. elim (item_at ps (start + k)) [ Some r ↦ cond (same_name x (text_of source r)) true b | None ↦ false ]) r
 
-pub inner_kept : {source : List ℕ} {n : ℕ} {a b : Table NameRecord} {s : Scope} {xs : List Name} →
-    Keeps n a b → s.start ≤ s.top → s.top ≤ n → Inner source (items a) s xs → Inner source (items b) s xs
-inner_kept {source = source} {n = n} {a = a} {b = b} {s = s} h p q k =
-    record { holds = λ x. k.holds x ∙ sym (held_same source (items a) (items b) n s.start (s.top - s.start) x h.same (omega arith)) }
+pub inner_kept : {source : List ℕ} {n : ℕ} {a b : Names} {s : Scope} {xs : List Name} →
+    Keeps n a b → s.top ≤ n → Inner source a s xs → Inner source b s xs
+inner_kept {source = source} {n = n} {a = a} {b = b} {s = s} h q k =
+    record { text = h.text ∙ k.text; holds = λ x. k.holds x ∙ sym (held_same source (listed a) (listed b) n s.start (s.top - s.start) x h.same (omega arith)) }
 
-pub declares_kept : {source : List ℕ} {n : ℕ} {a b : Table NameRecord} {s : Scope} {Δ : Open} →
-    Keeps n a b → s.start ≤ s.top → s.top ≤ n → Declares source (items a) s Δ → Declares source (items b) s Δ
-declares_kept {source = source} {n = n} {a = a} {b = b} {s = s} h p q k =
+pub declares_kept : {source : List ℕ} {n : ℕ} {a b : Names} {s : Scope} {Δ : Open} →
+    Keeps n a b → s.top ≤ n → Declares source a s Δ → Declares source b s Δ
+declares_kept {source = source} {n = n} {a = a} {b = b} {s = s} h q k =
     record {
-      knows = λ x. k.knows x ∙ sym (held_same source (items a) (items b) n 0 s.top x h.same (omega arith));
-      inner = inner_kept h p q k.inner;
+      knows = λ x. k.knows x ∙ sym (held_same source (listed a) (listed b) n 0 s.top x h.same (omega arith));
+      inner = inner_kept h q k.inner;
     }
 
 -- One more name
@@ -100,48 +80,50 @@ top_long [] r (suc n) k = absurd (not-suc-le-zero k)
 top_long (x ∷ xs) r (suc n) k = omega (arith, top_long xs r n (le_of_suc-le-suc k))
 
 -- what is put on top of the first names
-pub put_named : (a b : Table NameRecord) (s u : Scope) (t : Placed Lexeme) → s.top ≤ length (items a) →
-    items b ≡ take s.top (items a) ++ (record { place = t.place; end = t.what.end } ∷ []) → capacity b ≡ capacity a →
+pub put_named : (a b : Names) (s u : Scope) (t : Placed Lexeme) → s.top ≤ length (listed a) → b.source.now ≡ a.source.now →
+    listed b ≡ take s.top (listed a) ++ (record { place = t.place; end = t.what.end } ∷ []) → most b ≡ most a →
     u.start ≡ s.start → u.top ≡ s.top + 1 → Named a b s u t
-put_named a b s u t h e c p q =
+put_named a b s u t h m e c p q =
     let r : NameRecord = record { place = t.place; end = t.what.end } in
-    let n : length (items b) ≡ s.top + 1 = ap length e ∙ top_long (items a) (record { place = t.place; end = t.what.end }) s.top h in
+    let n : length (listed b) ≡ s.top + 1 = ap length e ∙ top_long (listed a) (record { place = t.place; end = t.what.end }) s.top h in
     record {
       keeps = record {
-        same = λ i k. ap (λ xs. item_at xs i) e ∙ item_front (items a) (record { place = t.place; end = t.what.end } ∷ []) s.top i k h;
+        text = m;
+        same = λ i k. ap (λ xs. item_at xs i) e ∙ item_front (listed a) (record { place = t.place; end = t.what.end } ∷ []) s.top i k h;
         within = omega arith;
         room = c;
       };
       start = p;
       next = q;
-      put = ap (λ xs. item_at xs s.top) e ∙ item_top (items a) (record { place = t.place; end = t.what.end }) s.top h;
+      put = ap (λ xs. item_at xs s.top) e ∙ item_top (listed a) (record { place = t.place; end = t.what.end }) s.top h;
       long = n;
     }
 
-pub inner_named : {source : List ℕ} {a b : Table NameRecord} {s u : Scope} {t : Placed Lexeme} {xs : List Name} →
-    Named a b s u t → s.start ≤ s.top → Inner source (items a) s xs → Inner source (items b) u ((token_in source t).text ∷ xs)
-inner_named {source = source} {a = a} {b = b} {s = s} {u = u} {t = t} h p k =
+pub inner_named : {source : List ℕ} {a b : Names} {s u : Scope} {t : Placed Lexeme} {xs : List Name} →
+    Named a b s u t → Inner source a s xs → Inner source b u ((token_in source t).text ∷ xs)
+inner_named {source = source} {a = a} {b = b} {s = s} {u = u} {t = t} h k =
     record {
+      text = h.keeps.text ∙ k.text;
       holds = λ x.
           let m = s.top - s.start in
           let e : u.top - u.start ≡ suc (s.top - s.start) = omega (arith, h.start, h.next) in
           let f : s.start + (s.top - s.start) ≡ s.top = omega arith in
-          let old = k.holds x ∙ sym (held_same source (items a) (items b) s.top s.start (s.top - s.start) x h.keeps.same (omega arith)) in
-          let new = held_some source (items b) s.start (s.top - s.start) x _ (sym (ap (item_at (items b)) f ∙ h.put)) in
-          ap (λ c. cond (same_name x (token_in source t).text) true c) old ∙ sym (ap (λ i. held source (items b) i (u.top - u.start) x) h.start ∙ ap (λ i. held source (items b) s.start i x) e ∙ new);
+          let old = k.holds x ∙ sym (held_same source (listed a) (listed b) s.top s.start (s.top - s.start) x h.keeps.same (omega arith)) in
+          let new = held_some source (listed b) s.start (s.top - s.start) x _ (ap (item_at (listed b)) f ∙ h.put) in
+          ap (λ c. cond (same_name x (token_in source t).text) true c) old ∙ sym (ap (λ i. held source (listed b) i (u.top - u.start) x) h.start ∙ ap (λ i. held source (listed b) s.start i x) e ∙ new);
     }
 
-pub declares_named : {source : List ℕ} {a b : Table NameRecord} {s u : Scope} {t : Placed Lexeme} {Δ : Open} →
-    Named a b s u t → s.start ≤ s.top → Declares source (items a) s Δ → Declares source (items b) u (added (token_in source t).text Δ)
-declares_named {source = source} {a = a} {b = b} {s = s} {u = u} {t = t} {Δ = Δ} h p k =
+pub declares_named : {source : List ℕ} {a b : Names} {s u : Scope} {t : Placed Lexeme} {Δ : Open} →
+    Named a b s u t → Declares source a s Δ → Declares source b u (added (token_in source t).text Δ)
+declares_named {source = source} {a = a} {b = b} {s = s} {u = u} {t = t} {Δ = Δ} h k =
     record {
       knows = λ x.
           let e : u.top ≡ suc s.top = omega (arith, h.next) in
           let f : 0 + s.top ≡ s.top = omega arith in
-          let old = k.knows x ∙ sym (held_same source (items a) (items b) s.top 0 s.top x h.keeps.same (omega arith)) in
-          let new = held_some source (items b) 0 s.top x _ (sym (ap (item_at (items b)) f ∙ h.put)) in
-          known_added Δ x (token_in source t).text ∙ ap (λ c. cond (same_name x (token_in source t).text) true c) old ∙ sym (ap (λ i. held source (items b) 0 i x) e ∙ new);
-      inner = let i = inner_named h p k.inner in subst (λ xs. Inner source (items b) u xs) (inner_added Δ (token_in source t).text) i;
+          let old = k.knows x ∙ sym (held_same source (listed a) (listed b) s.top 0 s.top x h.keeps.same (omega arith)) in
+          let new = held_some source (listed b) 0 s.top x _ (ap (item_at (listed b)) f ∙ h.put) in
+          known_added Δ x (token_in source t).text ∙ ap (λ c. cond (same_name x (token_in source t).text) true c) old ∙ sym (ap (λ i. held source (listed b) 0 i x) e ∙ new);
+      inner = let i = inner_named h k.inner in subst (λ xs. Inner source b u xs) (inner_added Δ (token_in source t).text) i;
     }
   where
     known_added : (Δ : Open) (x y : Name) → known (added y Δ) x ≡ cond (same_name x y) true (known Δ x)
@@ -153,10 +135,10 @@ declares_named {source = source} {a = a} {b = b} {s = s} {u = u} {t = t} {Δ = �
     inner_added [] y = refl
     inner_added (s ∷ Δ) y = refl
 
-pub grown_named : {a b : Table NameRecord} {s u : Scope} {t : Placed Lexeme} → Named a b s u t → Grown a b s u
+pub grown_named : {a b : Names} {s u : Scope} {t : Placed Lexeme} → Named a b s u t → Grown a b s u
 grown_named h = record { keeps = h.keeps; start = h.start; more = omega (arith, h.next); within = omega (arith, h.next, h.long) }
 
-pub grown_both : {a b c : Table NameRecord} {s u v : Scope} → Grown a b s u → Grown b c u v → Grown a c s v
+pub grown_both : {a b c : Names} {s u v : Scope} → Grown a b s u → Grown b c u v → Grown a c s v
 grown_both h k =
     record {
       keeps = keeps_both h.keeps k.keeps h.more;
@@ -165,40 +147,37 @@ grown_both h k =
       within = k.within;
     }
 
-pub grown_behind : {a b c : Table NameRecord} {s u : Scope} → Keeps s.top a b → Grown b c s u → Grown a c s u
+pub grown_behind : {a b c : Names} {s u : Scope} → Keeps s.top a b → Grown b c s u → Grown a c s u
 grown_behind {s = s} h k = record { keeps = keeps_both h k.keeps (omega arith); start = k.start; more = k.more; within = k.within }
 
-pub grown_none : {a : Table NameRecord} {s : Scope} → s.top ≤ length (items a) → Grown a a s s
-grown_none h = record { keeps = keeps_all h; start = refl; more = omega arith; within = h }
-
 -- an empty scope has no names
-pub inner_none : (source : List ℕ) (rs : List NameRecord) (s : Scope) → s.top ≡ s.start → Inner source rs s []
-inner_none source rs s e =
-    record { holds = λ x. let z : s.top - s.start ≡ 0 = omega arith in ap (λ k. held source rs s.start k x) (sym z) }
+pub inner_none : (source : List ℕ) (n : Names) (s : Scope) → n.source.now ≡ source → s.top ≡ s.start → Inner source n s []
+inner_none source n s t e =
+    record { text = t; holds = λ x. let z : s.top - s.start ≡ 0 = omega arith in ap (λ k. held source (listed n) s.start k x) (sym z) }
 
 -- a new scope inside
-pub enter : {source : List ℕ} {rs : List NameRecord} {s : Scope} {Δ : Open} (u : Scope) → u.top ≡ s.top → u.start ≡ s.top →
-    Declares source rs s Δ → Declares source rs u ([] ∷ Δ)
-enter {source = source} {rs = rs} u p q h =
-    record { knows = λ x. h.knows x ∙ ap (λ k. held source rs 0 k x) (sym p); inner = inner_none source rs u (p ∙ sym q) }
+pub enter : {source : List ℕ} {n : Names} {s : Scope} {Δ : Open} (u : Scope) → u.top ≡ s.top → u.start ≡ s.top →
+    Declares source n s Δ → Declares source n u ([] ∷ Δ)
+enter {source = source} {n = n} u p q h =
+    record { knows = λ x. h.knows x ∙ ap (λ k. held source (listed n) 0 k x) (sym p); inner = inner_none source n u h.inner.text (p ∙ sym q) }
 
 -- a scope under another name
-pub declares_at : {source : List ℕ} {rs : List NameRecord} {s u : Scope} {Δ : Open} → u ≡ s → Declares source rs s Δ → Declares source rs u Δ
-declares_at {source = source} {rs = rs} {Δ = Δ} e h = subst (λ z. Declares source rs z Δ) (sym e) h
+pub declares_at : {source : List ℕ} {n : Names} {s u : Scope} {Δ : Open} → u ≡ s → Declares source n s Δ → Declares source n u Δ
+declares_at {source = source} {n = n} {Δ = Δ} e h = subst (λ z. Declares source n z Δ) (sym e) h
 
-pub keeps_at : {n m : ℕ} {a b : Table NameRecord} → m ≡ n → Keeps m a b → Keeps n a b
+pub keeps_at : {n m : ℕ} {a b : Names} → m ≡ n → Keeps m a b → Keeps n a b
 keeps_at {a = a} {b = b} e h = subst (λ z. Keeps z a b) e h
 
-pub proceeded_at : {source : List ℕ} {ns : List Node} {m : ℕ} {a b : Table NameRecord} {s u : Scope} (v : Scope) → u ≡ v → Proceeded source ns m a b s v → Proceeded source ns m a b s u
-proceeded_at {source} {ns} {m} {a} {b} {s} v e h = subst (λ z. Proceeded source ns m a b s z) (sym e) h
+pub proceeded_at : {e : Subtree} {a b : Names} {s u : Scope} (v : Scope) → u ≡ v → Proceeded e a b s v → Proceeded e a b s u
+proceeded_at {e} {a} {b} {s} v p h = subst (λ z. Proceeded e a b s z) (sym p) h
 
 -- a name under another spelling of its token
-pub declares_text : {source : List ℕ} {rs : List NameRecord} {s : Scope} (Δ : Open) {x y : Name} → x ≡ y → Declares source rs s (added x Δ) → Declares source rs s (added y Δ)
-declares_text {source = source} {rs = rs} {s = s} Δ e h = subst (λ z. Declares source rs s (added z Δ)) e h
+pub declares_text : {source : List ℕ} {n : Names} {s : Scope} (Δ : Open) {x y : Name} → x ≡ y → Declares source n s (added x Δ) → Declares source n s (added y Δ)
+declares_text {source = source} {n = n} {s = s} Δ e h = subst (λ z. Declares source n s (added z Δ)) e h
 
-pub grown_then : {a b c : Table NameRecord} {s u : Scope} → Grown a b s u → Keeps u.top b c → Grown a c s u
+pub grown_then : {a b c : Names} {s u : Scope} → Grown a b s u → Keeps u.top b c → Grown a c s u
 grown_then h k = record { keeps = keeps_both h.keeps k h.more; start = h.start; more = h.more; within = k.within }
 
 -- no scope is open outside the outermost block
-pub outermost : (source : List ℕ) (rs : List NameRecord) (s : Scope) → s.top ≡ 0 → s.start ≡ 0 → Declares source rs s []
-outermost source rs s p q = record { knows = λ x. ap (λ k. held source rs 0 k x) (sym p); inner = inner_none source rs s (p ∙ sym q) }
+pub outermost : (source : List ℕ) (n : Names) (s : Scope) → n.source.now ≡ source → s.top ≡ 0 → s.start ≡ 0 → Declares source n s []
+outermost source n s t p q = record { knows = λ x. ap (λ k. held source (listed n) 0 k x) (sym p); inner = inner_none source n s t (p ∙ sym q) }

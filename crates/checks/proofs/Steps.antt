@@ -1,5 +1,5 @@
 -- How answers are put together: one list of breaks behind another is one answer after another.
-use Rattle.std.proofs.Common.{◌≡◌, ℕ, Bool, true, false, cond, List, [], ◌∷◌, ◌++◌, IsErrAnd, Ok, Err, Result, sym, refl, subst, arith}
+use Rattle.std.proofs.Common.{◌≡◌, ℕ, Bool, true, false, cond, List, [], ◌∷◌, ◌++◌, IsErrAnd, Ok, Err, Result, sym, refl, ap, ◌∙◌, subst, arith}
 use Rattle.std.proofs.lemmas.Result.{err_from_is_err_and}
 use Rattle.tiny.specs.Token.{Token}
 use Rattle.meaning.specs.Stages.{Break}
@@ -60,12 +60,15 @@ pub record Made (A : List Break) (p : Plan) : Type 0 where
 pub made : {A : List Break} {p : Plan} → A ≡ breaks p → Made A p
 made e = record { is = e }
 
+-- a list of which a test is known
+pub taken : {A : List Break} {b : Bool} {p q : Plan} → Made A (pick b p q) → b ≡ true → Made A p
+taken {p = p} {q = q} m e = record { is = m.is ∙ ap (λ b. cond b (breaks p) (breaks q)) e }
+
+pub left : {A : List Break} {b : Bool} {p q : Plan} → Made A (pick b p q) → b ≡ false → Made A q
+left {p = p} {q = q} m e = record { is = m.is ∙ ap (λ b. cond b (breaks p) (breaks q)) e }
+
 pub by : {X F : Type 0} {f : F → Break} {r : Result X F} {A : List Break} {p : Plan} → Made A p → Goes f r p → Tells f r A
 by {f = f} {r = r} {A = A} {p = p} e k = subst (λ x. Tells f r x) (sym e.is) (let h : Tells f r (breaks p) = record { first = k.first } in h)
-
--- a place under another name
-pub at_place : {X F : Type 0} {f : F → Break} {r : Result X F} (g : ℕ → List Break) {p q : ℕ} → p ≡ q → Tells f r (g p) → Tells f r (g q)
-at_place {f = f} {r = r} g e k = subst (λ x. Tells f r (g x)) e k
 
 -- a token under another name
 pub at_token : {X F : Type 0} {f : F → Break} {r : Result X F} (g : Token → List Break) {x y : Token} → x ≡ y → Tells f r (g x) → Tells f r (g y)

@@ -8,14 +8,16 @@ use Rattle.syntax.specs.Shape.{size}
 use Rattle.syntax.specs.Shape as Shape
 use Rattle.syntax.specs.View as View
 use Rattle.nodes.specs.declared.node.Node.{Node}
-use Rattle.tables.specs.declared.table.Table.{Table}
-use Rattle.tables.specs.Items.{items, capacity, item_at}
+use Rattle.nodes.specs.declared.subtree.Subtree.{Subtree}
 use Rattle.nodes.specs.Shows.{Shows}
+use Rattle.nodes.specs.Subtrees.{Shown}
+use Rattle.tables.specs.Items.{items, capacity, item_at}
 use Rattle.tiny.specs.declared.tokens.Kind.TheVariants.{Name as NameKind, TypeWord, ProcWord, Semicolon, DoubleAmpersand}
 use Rattle.tiny.specs.Token.{is}
 use Rattle.meaning.specs.Stages.{Break, Open, has, known, innermost, added, twice, names_formals, open_formals, names_block}
 use Rattle.checks.specs.declared.faults.NameCause.{NameCause}
 use Rattle.checks.specs.declared.names.NameRecord.{NameRecord}
+use Rattle.checks.specs.declared.names.Names.{Names}
 use Rattle.checks.specs.declared.scope.Scope.{Scope}
 use Rattle.checks.specs.Breaks.{Tells}
 use Rattle.checks.specs.Names.{held}
@@ -24,18 +26,26 @@ use Rattle.checks.specs.Numbers.{name_number}
 abbrev pub name_break : Placed NameCause → Break
 name_break f = record { number = name_number f.what; at = f.place }
 
+-- the names in the table, and how many there may be
+abbrev pub listed : Names → List NameRecord
+listed n = items n.table.now
+
+abbrev pub most : Names → ℕ
+most n = capacity n.table.now
+
 -- the names of the innermost scope
-pub record Inner (source : List ℕ) (rs : List NameRecord) (s : Scope) (xs : List Name) : Type 0 where
-  pub holds : (x : Name) → has xs x ≡ held source rs s.start (s.top - s.start) x
+pub record Inner (source : List ℕ) (n : Names) (s : Scope) (xs : List Name) : Type 0 where
+  pub text : n.source.now ≡ source
+  pub holds : (x : Name) → has xs x ≡ held source (listed n) s.start (s.top - s.start) x
 
 -- the names of all open scopes, and those of the innermost
-pub record Declares (source : List ℕ) (rs : List NameRecord) (s : Scope) (Δ : Open) : Type 0 where
-  pub knows : (x : Name) → known Δ x ≡ held source rs 0 s.top x
-  pub inner : Inner source rs s (innermost Δ)
+pub record Declares (source : List ℕ) (n : Names) (s : Scope) (Δ : Open) : Type 0 where
+  pub knows : (x : Name) → known Δ x ≡ held source (listed n) 0 s.top x
+  pub inner : Inner source n s (innermost Δ)
 
 -- the answer is the first of these breaks, whatever tree the record shows and whatever scopes the table declares
-abbrev pub NamesAre : {X : Type 0} → List ℕ → List Node → ℕ → List NameRecord → Scope → Result X (Placed NameCause) → (Shape.Tree → Open → List Break) → Type 0
-NamesAre source ns i rs s r f = (t : Shape.Tree) (Δ : Open) → Shows source ns i t → Declares source rs s Δ → Tells name_break r (f t Δ)
+abbrev pub NamesAre : {X : Type 0} → Names → Scope → Subtree → Result X (Placed NameCause) → (Shape.Tree → Open → List Break) → Type 0
+NamesAre n s e r f = (source : List ℕ) (t : Shape.Tree) (Δ : Open) → Shown source e t → Declares source n s Δ → Tells name_break r (f t Δ)
 
 -- a fact of an answer without a break
 pub record WhenOk {X F : Type 0} (r : Result X F) (P : Type 0) : Type 0 where
@@ -47,26 +57,50 @@ pub record FitsIn (source : List ℕ) (ns : List Node) (i used room : ℕ) : Typ
   pub shown : Shows source ns i tree
   pub fits : used + size tree ≤ room
 
--- the first n names are as they were
-pub record Keeps (n : ℕ) (a b : Table NameRecord) : Type 0 where
-  pub same : (i : ℕ) → i < n → item_at (items b) i ≡ item_at (items a) i
-  pub within : n ≤ length (items b)
-  pub room : capacity b ≡ capacity a
+-- the first `used` names are in the table, and on top of them there is room for those of a tree, which are `few` at most
+pub record Fits (n : Names) (used : ℕ) (e : Subtree) (few : Shape.Tree → ℕ) : Type 0 where
+  pub source : List ℕ
+  pub tree : Shape.Tree
+  pub shown : Shown source e tree
+  pub within : used ≤ length (listed n)
+  pub fits : used + few tree ≤ most n
+
+-- the same of a procedure: its name with its formals, and its block
+pub record FitsBoth (n : Names) (used : ℕ) (e b : Subtree) : Type 0 where
+  pub source : List ℕ
+  pub head : Shape.Tree
+  pub body : Shape.Tree
+  pub head_shown : Shown source e head
+  pub body_shown : Shown source b body
+  pub within : used ≤ length (listed n)
+  pub fits : used + (1 + (size head + size body)) ≤ most n
+
+-- the same of one name
+pub record FitsOne (n : Names) (used : ℕ) : Type 0 where
+  pub within : used ≤ length (listed n)
+  pub fits : used < most n
+
+-- the first k names are as they were
+pub record Keeps (k : ℕ) (a b : Names) : Type 0 where
+  pub text : b.source.now ≡ a.source.now
+  pub same : (i : ℕ) → i < k → item_at (listed b) i ≡ item_at (listed a) i
+  pub within : k ≤ length (listed b)
+  pub room : most b ≡ most a
 
 -- the innermost scope has more names
-pub record Grown (a b : Table NameRecord) (s u : Scope) : Type 0 where
+pub record Grown (a b : Names) (s u : Scope) : Type 0 where
   pub keeps : Keeps s.top a b
   pub start : u.start ≡ s.start
   pub more : s.top ≤ u.top
-  pub within : u.top ≤ length (items b)
+  pub within : u.top ≤ length (listed b)
 
 -- it has one more, the name that a token is
-pub record Named (a b : Table NameRecord) (s u : Scope) (t : Placed Lexeme) : Type 0 where
+pub record Named (a b : Names) (s u : Scope) (t : Placed Lexeme) : Type 0 where
   pub keeps : Keeps s.top a b
   pub start : u.start ≡ s.start
   pub next : u.top ≡ s.top + 1
-  pub put : item_at (items b) s.top ≡ Some (record { place = t.place; end = t.what.end })
-  pub long : length (items b) ≡ s.top + 1
+  pub put : item_at (listed b) s.top ≡ Some (record { place = t.place; end = t.what.end })
+  pub long : length (listed b) ≡ s.top + 1
 
 -- the names of fields, on top of others
 abbrev pub open_fields : Fields → List Name → List Name
@@ -74,17 +108,17 @@ open_fields Tree.no_field xs = xs
 open_fields (Tree.field_of t at x fs) xs = open_fields fs (x ∷ xs)
 
 -- after the fields of a list, with the scope of the struct's fields before and after
-pub record Fielded (source : List ℕ) (ns : List Node) (i : ℕ) (a b : Table NameRecord) (s u : Scope) : Type 0 where
+pub record Fielded (e : Subtree) (a b : Names) (s u : Scope) : Type 0 where
   pub grown : Grown a b s u
-  pub inner : (t : Shape.Tree) (xs : List Name) → Shows source ns i t → Inner source (items a) s xs →
-      Inner source (items b) u (open_fields (View.fields t Tree.no_field) xs)
-  pub few : (t : Shape.Tree) → Shows source ns i t → u.top ≤ s.top + size t
+  pub inner : (source : List ℕ) (t : Shape.Tree) (xs : List Name) → Shown source e t → Inner source a s xs →
+      Inner source b u (open_fields (View.fields t Tree.no_field) xs)
+  pub few : (source : List ℕ) (t : Shape.Tree) → Shown source e t → u.top ≤ s.top + size t
 
 -- after what declares names in the innermost scope: `f` are the open scopes then, and `n` bounds how many names are new
-pub record Opened (source : List ℕ) (ns : List Node) (i : ℕ) (a b : Table NameRecord) (s u : Scope) (f : Shape.Tree → Open → Open) (n : Shape.Tree → ℕ) : Type 0 where
+pub record Opened (e : Subtree) (a b : Names) (s u : Scope) (f : Shape.Tree → Open → Open) (n : Shape.Tree → ℕ) : Type 0 where
   pub grown : Grown a b s u
-  pub declares : (t : Shape.Tree) (Δ : Open) → Shows source ns i t → Declares source (items a) s Δ → Declares source (items b) u (f t Δ)
-  pub few : (t : Shape.Tree) → Shows source ns i t → u.top ≤ s.top + n t
+  pub declares : (source : List ℕ) (t : Shape.Tree) (Δ : Open) → Shown source e t → Declares source a s Δ → Declares source b u (f t Δ)
+  pub few : (source : List ℕ) (t : Shape.Tree) → Shown source e t → u.top ≤ s.top + n t
 
 -- how many names the declarations of what stands in a block open
 abbrev pub new_names : Shape.Tree → ℕ
@@ -93,19 +127,13 @@ new_names (Shape.under t e) = cond (is t.kind DoubleAmpersand) (new_names e) (co
 new_names (Shape.join t l r) =
     cond (is t.kind DoubleAmpersand) (new_names l) (cond (is t.kind Semicolon) (new_names l + new_names r) (cond (is t.kind ProcWord) 1 0))
 
--- the record shows a tree whose declarations are open already, and there is room for its other names
-pub record FitsBehind (source : List ℕ) (ns : List Node) (i used room : ℕ) : Type 0 where
-  pub tree : Shape.Tree
-  pub shown : Shows source ns i tree
-  pub fits : used + size tree ≤ room + new_names tree
+-- how many names may stand in a block, which opens none around it
+abbrev pub inside : Shape.Tree → ℕ
+inside t = size t - 1
 
--- two records show a procedure's name with its formals, and its block
-pub record FitsBoth (source : List ℕ) (ns : List Node) (m n used room : ℕ) : Type 0 where
-  pub head : Shape.Tree
-  pub body : Shape.Tree
-  pub head_shown : Shows source ns m head
-  pub body_shown : Shows source ns n body
-  pub fits : used + (1 + (size head + size body)) ≤ room
+-- how many names are left where those of the declarations are open already
+abbrev pub behind : Shape.Tree → ℕ
+behind t = size t - new_names t
 
 -- the names of a procedure: its own, its formals, its block
 abbrev pub names_procedure : Shape.Tree → Shape.Tree → Open → List Break
@@ -115,7 +143,7 @@ names_procedure l r Δ =
     ++ names_block (View.block r) (open_formals (View.formals (View.part_of l) Tree.no_formal) ([] ∷ added (Shape.token_of l).text Δ)))
 
 -- after a procedure, whose name is open
-pub record Proceeded (source : List ℕ) (ns : List Node) (m : ℕ) (a b : Table NameRecord) (s u : Scope) : Type 0 where
+pub record Proceeded (e : Subtree) (a b : Names) (s u : Scope) : Type 0 where
   pub grown : Grown a b s u
-  pub declares : (l : Shape.Tree) (Δ : Open) → Shows source ns m l → Declares source (items a) s Δ → Declares source (items b) u (added (Shape.token_of l).text Δ)
+  pub declares : (source : List ℕ) (l : Shape.Tree) (Δ : Open) → Shown source e l → Declares source a s Δ → Declares source b u (added (Shape.token_of l).text Δ)
   pub next : u.top ≡ s.top + 1

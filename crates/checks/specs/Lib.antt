@@ -5,4 +5,3 @@ pub mod Declares
 pub mod Depth
 pub mod Names
 pub mod Numbers
-pub mod Rooted

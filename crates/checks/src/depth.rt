@@ -1,18 +1,18 @@
 // How deep a tree is: the first node in the order of the source that is deeper than 96, or procedure
 // that is nested deeper than 8.
-ghost use Rattle.std.specs.Prelude.{◌≡◌, ◌+◌, ◌^◌, ◌<◌, ◌≤◌, length, if◌then◌else◌, nat_lt};
+ghost use Rattle.std.specs.Prelude.{◌≡◌, ℕ, ◌+◌, if◌then◌else◌, nat_lt};
 ghost use Rattle.tiny.specs.Tree.{Fields, Formals, Statements, DeclarationTrees};
 ghost use Rattle.meaning.specs.Stages.{break, deeper, deep, deep_type, deep_fields, deep_formals, deep_all, deep_statements, deep_declarations, deep_block};
-ghost use Rattle.checks.specs.Depth.{deep_branches};
+ghost use Rattle.nodes.specs.Rooted.{Rooted};
 ghost use Rattle.syntax.specs.View;
 ghost use Rattle.checks.specs.Breaks.{Tells, depth_break};
-ghost use Rattle.checks.specs.Rooted.{Rooted, DepthIs};
+ghost use Rattle.checks.specs.Depth.{Counts, DepthIs, DeepIs, deep_branches};
 
 use crate::faults::{DepthCause, DepthFault};
-use crate::parts::{formal_type, part_of, takes_expression, token_at};
 use nodes::node::Node;
+use nodes::subtree::{Shape, Subtree};
 use tiny::placed::Placed;
-use tiny::tokens::Kind;
+use tiny::tokens::{Kind, Token};
 
 // The greatest depth of a node.
 pub const MOST_DEEP: usize = 96;
@@ -20,319 +20,253 @@ pub const MOST_DEEP: usize = 96;
 // How many procedures may stand around one another.
 pub const MOST_NESTED: usize = 8;
 
-// A node at a place.
-fn node(place: usize, depth: usize) -> Result<(), DepthFault>
-    ensures { Tells depth_break result (deeper 96 depth place) }
-{
-    if depth > MOST_DEEP {
-        let what = DepthCause::Node;
-        return Err(Placed { what, place });
-    }
-    Ok(())
+// How many nodes down, and inside how many procedures: each is counted up to 255.
+#[derive(Clone, Copy)]
+struct Depth {
+    nodes: u8,
+    procedures: u8,
 }
 
-fn expression(nodes: &[Node], at: usize, depth: usize) -> Result<(), DepthFault>
-    requires within { at < length nodes.now }
-    requires tree { Rooted nodes.now at }
-    requires room { at + depth < 2 ^ 64 }
-    ensures { DepthIs nodes.now at result (λ t. deep (View.expression t) depth) }
-{
-    let here = nodes[at];
-    match here {
-        Node::Blank => Ok(()),
-        Node::Leaf { token } => node(token.place, depth),
-        Node::Under { token, part } => {
-            node(token.place, depth)?;
-            expression(nodes, part, depth + 1)
+impl Depth {
+    // One node further down.
+    fn deeper(self) -> Self
+        ensures { (d l : ℕ) → Counts self d l → Counts result (d + 1) l }
+    {
+        Depth {
+            nodes: self.nodes.saturating_add(1),
+            ..self
         }
-        Node::Join { token, left, right } => {
-            expression(nodes, left, depth + 1)?;
-            node(token.place, depth)?;
-            if token.what.kind.is(Kind::Dot) {
+    }
+
+    // Inside one more procedure.
+    fn inside(self) -> Self
+        ensures { (d l : ℕ) → Counts self d l → Counts result d (l + 1) }
+    {
+        Depth {
+            procedures: self.procedures.saturating_add(1),
+            ..self
+        }
+    }
+
+    // A node that stands so deep.
+    fn node(self, token: Token) -> Result<(), DepthFault>
+        ensures { (d l : ℕ) → Counts self d l → Tells depth_break result (deeper 96 d token.place) }
+    {
+        if self.nodes as usize > MOST_DEEP {
+            let what = DepthCause::Node;
+            let place = token.place;
+            return Err(Placed { what, place });
+        }
+        Ok(())
+    }
+
+    // The name of a procedure that stands so deep.
+    fn procedure(self, name: Token) -> Result<(), DepthFault>
+        ensures { (d l : ℕ) → Counts self d l → Tells depth_break result (if nat_lt 96 d then break 7 name.place else deeper 8 (l + 1) name.place) }
+    {
+        self.node(name)?;
+        if self.procedures as usize >= MOST_NESTED {
+            let what = DepthCause::Procedure;
+            let place = name.place;
+            return Err(Placed { what, place });
+        }
+        Ok(())
+    }
+}
+
+fn expression(tree: Subtree<'_>, depth: Depth) -> Result<(), DepthFault>
+    ensures { DeepIs tree.entry depth result (λ t d l. deep (View.expression t) d) }
+{
+    match tree.shape() {
+        Shape::Leaf { token } => depth.node(token),
+        Shape::Under { token, part } => {
+            depth.node(token)?;
+            expression(part, depth.deeper())
+        }
+        Shape::Join { token, left, right } => {
+            expression(left, depth.deeper())?;
+            depth.node(token)?;
+            if token.what.kind == Kind::Dot {
                 return Ok(());
             }
-            expression(nodes, right, depth + 1)
+            expression(right, depth.deeper())
         }
     }
 }
 
 #[cycle(types)]
-fn type_tree(nodes: &[Node], at: usize, depth: usize) -> Result<(), DepthFault>
-    requires within { at < length nodes.now }
-    requires tree { Rooted nodes.now at }
-    requires room { at + depth < 2 ^ 64 }
-    ensures { DepthIs nodes.now at result (λ t. deep_type (View.type_tree t) depth) }
+fn type_tree(tree: Subtree<'_>, depth: Depth) -> Result<(), DepthFault>
+    ensures { DeepIs tree.entry depth result (λ t d l. deep_type (View.type_tree t) d) }
 {
-    let here = nodes[at];
-    match here {
-        Node::Blank => Ok(()),
-        Node::Leaf { token } => node(token.place, depth),
-        Node::Under { token, part } => {
-            node(token.place, depth)?;
-            fields(nodes, part, depth + 1)
+    match tree.shape() {
+        Shape::Leaf { token } => depth.node(token),
+        Shape::Under { token, part } => {
+            depth.node(token)?;
+            fields(part, depth.deeper())
         }
-        Node::Join {
-            token,
-            left,
-            right: _,
-        } => {
-            type_tree(nodes, left, depth + 1)?;
-            node(token.place, depth)
+        Shape::Join { token, left, .. } => {
+            type_tree(left, depth.deeper())?;
+            depth.node(token)
         }
     }
 }
 
 #[cycle(types)]
-fn fields(nodes: &[Node], at: usize, depth: usize) -> Result<(), DepthFault>
-    requires within { at < length nodes.now }
-    requires tree { Rooted nodes.now at }
-    requires room { at + depth < 2 ^ 64 }
-    ensures { DepthIs nodes.now at result (λ t. deep_fields (View.fields t Fields.no_field) depth) }
+fn fields(tree: Subtree<'_>, depth: Depth) -> Result<(), DepthFault>
+    ensures { DeepIs tree.entry depth result (λ t d l. deep_fields (View.fields t Fields.no_field) d) }
 {
-    let here = nodes[at];
-    match here {
-        Node::Blank => Ok(()),
-        Node::Leaf { token: _ } => Ok(()),
-        Node::Under { token, part } => {
-            type_tree(nodes, part, depth + 1)?;
-            node(token.place, depth)
+    match tree.shape() {
+        Shape::Leaf { .. } => Ok(()),
+        Shape::Under { token, part } => {
+            type_tree(part, depth.deeper())?;
+            depth.node(token)
         }
-        Node::Join {
-            token: _,
-            left,
-            right,
-        } => {
-            fields(nodes, left, depth)?;
-            fields(nodes, right, depth)
+        Shape::Join { left, right, .. } => {
+            fields(left, depth)?;
+            fields(right, depth)
         }
     }
 }
 
-fn formals(nodes: &[Node], at: usize, depth: usize) -> Result<(), DepthFault>
-    requires within { at < length nodes.now }
-    requires tree { Rooted nodes.now at }
-    requires room { at + depth < 2 ^ 64 }
-    ensures { DepthIs nodes.now at result (λ t. deep_formals (View.formals t Formals.no_formal) depth) }
+fn formals(tree: Subtree<'_>, depth: Depth) -> Result<(), DepthFault>
+    ensures { DeepIs tree.entry depth result (λ t d l. deep_formals (View.formals t Formals.no_formal) d) }
 {
-    let here = nodes[at];
-    match here {
-        Node::Blank => Ok(()),
-        Node::Leaf { token: _ } => Ok(()),
-        Node::Under { token, part } => {
-            if token.what.kind.is(Kind::Open) {
-                return formals(nodes, part, depth);
+    match tree.shape() {
+        Shape::Leaf { .. } => Ok(()),
+        Shape::Under { token, part } => {
+            if token.what.kind == Kind::Open {
+                return formals(part, depth);
             }
-            let its_type = formal_type(nodes, part);
-            type_tree(nodes, its_type, depth + 1)?;
-            node(token.place, depth)
+            type_tree(part.formal_type(), depth.deeper())?;
+            depth.node(token)
         }
-        Node::Join {
-            token: _,
-            left,
-            right,
-        } => {
-            formals(nodes, left, depth)?;
-            formals(nodes, right, depth)
+        Shape::Join { left, right, .. } => {
+            formals(left, depth)?;
+            formals(right, depth)
         }
     }
 }
 
-fn expressions(nodes: &[Node], at: usize, depth: usize) -> Result<(), DepthFault>
-    requires within { at < length nodes.now }
-    requires tree { Rooted nodes.now at }
-    requires room { at + depth < 2 ^ 64 }
-    ensures { DepthIs nodes.now at result (λ t. deep_all (View.expressions t) depth) }
+fn expressions(tree: Subtree<'_>, depth: Depth) -> Result<(), DepthFault>
+    ensures { DeepIs tree.entry depth result (λ t d l. deep_all (View.expressions t) d) }
 {
-    let here = nodes[at];
-    match here {
-        Node::Blank => Ok(()),
-        Node::Leaf { token: _ } => expression(nodes, at, depth),
-        Node::Under { token: _, part: _ } => expression(nodes, at, depth),
-        Node::Join { token, left, right } => {
-            if token.what.kind.is(Kind::Comma) {
-                expression(nodes, left, depth)?;
-                return expressions(nodes, right, depth);
-            }
-            expression(nodes, at, depth)
+    match tree.shape() {
+        Shape::Join { token, left, right } if token.what.kind == Kind::Comma => {
+            expression(left, depth)?;
+            expressions(right, depth)
         }
+        _ => expression(tree, depth),
     }
 }
 
-fn arguments(nodes: &[Node], at: usize, depth: usize) -> Result<(), DepthFault>
-    requires within { at < length nodes.now }
-    requires tree { Rooted nodes.now at }
-    requires room { at + depth < 2 ^ 64 }
-    ensures { DepthIs nodes.now at result (λ t. deep_all (View.arguments t) depth) }
+fn arguments(tree: Subtree<'_>, depth: Depth) -> Result<(), DepthFault>
+    ensures { DeepIs tree.entry depth result (λ t d l. deep_all (View.arguments t) d) }
 {
-    let here = nodes[at];
-    match here {
-        Node::Blank => Ok(()),
-        Node::Leaf { token: _ } => Ok(()),
-        Node::Under { token: _, part } => expressions(nodes, part, depth),
-        Node::Join {
-            token: _,
-            left: _,
-            right: _,
-        } => Ok(()),
-    }
-}
-
-// The name of a procedure; `level` procedures stand around it.
-fn procedure(place: usize, depth: usize, level: usize) -> Result<(), DepthFault>
-    ensures { Tells depth_break result (if nat_lt 96 depth then break 7 place else deeper 8 (level + 1) place) }
-{
-    if depth > MOST_DEEP {
-        let what = DepthCause::Node;
-        return Err(Placed { what, place });
-    }
-    if level >= MOST_NESTED {
-        let what = DepthCause::Procedure;
-        return Err(Placed { what, place });
-    }
-    Ok(())
-}
-
-#[cycle(blocks)]
-fn declarations(nodes: &[Node], at: usize, depth: usize, level: usize) -> Result<(), DepthFault>
-    requires within { at < length nodes.now }
-    requires tree { Rooted nodes.now at }
-    requires room { at + depth < 2 ^ 64 }
-    requires nested { level ≤ depth }
-    ensures { DepthIs nodes.now at result (λ t. deep_declarations (View.declarations t DeclarationTrees.no_declaration) depth level) }
-{
-    let here = nodes[at];
-    match here {
-        Node::Blank => Ok(()),
-        Node::Leaf { token: _ } => Ok(()),
-        Node::Under { token, part } => {
-            let kind = token.what.kind;
-            if kind.is(Kind::DoubleAmpersand) {
-                return declarations(nodes, part, depth, level);
-            }
-            if kind.is(Kind::TypeWord) {
-                let its_type = part_of(nodes, part);
-                type_tree(nodes, its_type, depth + 1)?;
-                return node(token_at(nodes, part).place, depth);
-            }
-            if kind.is(Kind::Name) {
-                type_tree(nodes, part, depth + 1)?;
-                return node(token.place, depth);
-            }
-            Ok(())
-        }
-        Node::Join { token, left, right } => {
-            let kind = token.what.kind;
-            if kind.is(Kind::DoubleAmpersand) {
-                return declarations(nodes, left, depth, level);
-            }
-            if kind.is(Kind::Semicolon) {
-                declarations(nodes, left, depth, level)?;
-                return declarations(nodes, right, depth, level);
-            }
-            if kind.is(Kind::ProcWord) {
-                procedure(token_at(nodes, left).place, depth, level)?;
-                let its_formals = part_of(nodes, left);
-                formals(nodes, its_formals, depth + 1)?;
-                return block(nodes, right, depth + 1, level + 1);
-            }
-            Ok(())
-        }
+    match tree.shape() {
+        Shape::Under { part, .. } => expressions(part, depth),
+        _ => Ok(()),
     }
 }
 
 #[cycle(blocks)]
-fn statements(nodes: &[Node], at: usize, depth: usize, level: usize) -> Result<(), DepthFault>
-    requires within { at < length nodes.now }
-    requires tree { Rooted nodes.now at }
-    requires room { at + depth < 2 ^ 64 }
-    requires nested { level ≤ depth }
-    ensures { DepthIs nodes.now at result (λ t. deep_statements (View.statements t Statements.no_statement) depth level) }
+fn declarations(tree: Subtree<'_>, depth: Depth) -> Result<(), DepthFault>
+    ensures { DeepIs tree.entry depth result (λ t d l. deep_declarations (View.declarations t DeclarationTrees.no_declaration) d l) }
 {
-    let here = nodes[at];
-    match here {
-        Node::Blank => Ok(()),
-        Node::Leaf { token } => node(token.place, depth),
-        Node::Under { token, part } => {
-            if token.what.kind.is(Kind::DoubleAmpersand) {
-                return Ok(());
+    match tree.shape() {
+        Shape::Leaf { .. } => Ok(()),
+        Shape::Under { token, part } => match token.what.kind {
+            Kind::DoubleAmpersand => declarations(part, depth),
+            Kind::TypeWord => {
+                type_tree(part.part(), depth.deeper())?;
+                depth.node(part.token())
             }
-            if takes_expression(token.what.kind) {
-                node(token.place, depth)?;
-                return expression(nodes, part, depth + 1);
+            Kind::Name => {
+                type_tree(part, depth.deeper())?;
+                depth.node(token)
             }
-            block(nodes, at, depth, level)
-        }
-        Node::Join { token, left, right } => {
-            let kind = token.what.kind;
-            if kind.is(Kind::DoubleAmpersand) {
-                return statements(nodes, right, depth, level);
+            _ => Ok(()),
+        },
+        Shape::Join { token, left, right } => match token.what.kind {
+            Kind::DoubleAmpersand => declarations(left, depth),
+            Kind::Semicolon => {
+                declarations(left, depth)?;
+                declarations(right, depth)
             }
-            if kind.is(Kind::Semicolon) {
-                statements(nodes, left, depth, level)?;
-                return statements(nodes, right, depth, level);
+            Kind::ProcWord => {
+                depth.procedure(left.token())?;
+                formals(left.part(), depth.deeper())?;
+                block(right, depth.deeper().inside())
             }
-            node(token.place, depth)?;
-            if kind.is(Kind::IfWord) {
-                expression(nodes, left, depth + 1)?;
-                return branches(nodes, right, depth + 1, level);
+            _ => Ok(()),
+        },
+    }
+}
+
+#[cycle(blocks)]
+fn statements(tree: Subtree<'_>, depth: Depth) -> Result<(), DepthFault>
+    ensures { DeepIs tree.entry depth result (λ t d l. deep_statements (View.statements t Statements.no_statement) d l) }
+{
+    match tree.shape() {
+        Shape::Leaf { token } => depth.node(token),
+        Shape::Under { token, part } => match token.what.kind {
+            Kind::DoubleAmpersand => Ok(()),
+            Kind::At | Kind::ReadWord | Kind::WriteWord => {
+                depth.node(token)?;
+                expression(part, depth.deeper())
             }
-            if kind.is(Kind::WhileWord) {
-                expression(nodes, left, depth + 1)?;
-                return block(nodes, right, depth + 1, level);
+            _ => block(tree, depth),
+        },
+        Shape::Join { token, left, right } => match token.what.kind {
+            Kind::DoubleAmpersand => statements(right, depth),
+            Kind::Semicolon => {
+                statements(left, depth)?;
+                statements(right, depth)
             }
-            node(token_at(nodes, left).place, depth + 1)?;
-            arguments(nodes, right, depth + 1)
-        }
+            Kind::IfWord => {
+                depth.node(token)?;
+                expression(left, depth.deeper())?;
+                branches(right, depth.deeper())
+            }
+            Kind::WhileWord => {
+                depth.node(token)?;
+                expression(left, depth.deeper())?;
+                block(right, depth.deeper())
+            }
+            _ => {
+                depth.node(token)?;
+                depth.deeper().node(left.token())?;
+                arguments(right, depth.deeper())
+            }
+        },
     }
 }
 
 // The one block of an `if`, or both.
 #[cycle(blocks)]
-fn branches(nodes: &[Node], at: usize, depth: usize, level: usize) -> Result<(), DepthFault>
-    requires within { at < length nodes.now }
-    requires tree { Rooted nodes.now at }
-    requires room { at + depth < 2 ^ 64 }
-    requires nested { level ≤ depth }
-    ensures { DepthIs nodes.now at result (λ t. deep_branches t depth level) }
+fn branches(tree: Subtree<'_>, depth: Depth) -> Result<(), DepthFault>
+    ensures { DeepIs tree.entry depth result (λ t d l. deep_branches t d l) }
 {
-    let here = nodes[at];
-    match here {
-        Node::Blank => Ok(()),
-        Node::Leaf { token: _ } => block(nodes, at, depth, level),
-        Node::Under { token: _, part: _ } => block(nodes, at, depth, level),
-        Node::Join {
-            token: _,
-            left,
-            right,
-        } => {
-            block(nodes, left, depth, level)?;
-            block(nodes, right, depth, level)
+    match tree.shape() {
+        Shape::Join { left, right, .. } => {
+            block(left, depth)?;
+            block(right, depth)
         }
+        _ => block(tree, depth),
     }
 }
 
 #[cycle(blocks)]
-fn block(nodes: &[Node], at: usize, depth: usize, level: usize) -> Result<(), DepthFault>
-    requires within { at < length nodes.now }
-    requires tree { Rooted nodes.now at }
-    requires room { at + depth < 2 ^ 64 }
-    requires nested { level ≤ depth }
-    ensures { DepthIs nodes.now at result (λ t. deep_block (View.block t) depth level) }
+fn block(tree: Subtree<'_>, depth: Depth) -> Result<(), DepthFault>
+    ensures { DeepIs tree.entry depth result (λ t d l. deep_block (View.block t) d l) }
 {
-    let here = nodes[at];
-    match here {
-        Node::Blank => Ok(()),
-        Node::Leaf { token } => node(token.place, depth),
-        Node::Under { token, part } => {
-            node(token.place, depth)?;
-            declarations(nodes, part, depth + 1, level)?;
-            statements(nodes, part, depth + 1, level)
+    match tree.shape() {
+        Shape::Leaf { token } | Shape::Join { token, .. } => depth.node(token),
+        Shape::Under { token, part } => {
+            depth.node(token)?;
+            let depth = depth.deeper();
+            declarations(part, depth)?;
+            statements(part, depth)
         }
-        Node::Join {
-            token,
-            left: _,
-            right: _,
-        } => node(token.place, depth),
     }
 }
 
@@ -342,5 +276,9 @@ pub fn check_depth(nodes: &[Node], root: usize) -> Result<(), DepthFault>
     requires { Rooted nodes.now root }
     ensures { DepthIs nodes.now root result (λ t. deep_block (View.block t) 1 0) }
 {
-    block(nodes, root, 1, 0)
+    let outermost = Depth {
+        nodes: 1,
+        procedures: 0,
+    };
+    block(Subtree::new(nodes, root), outermost)
 }

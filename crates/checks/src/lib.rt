@@ -6,5 +6,4 @@ pub mod checking;
 pub mod depth;
 pub mod faults;
 pub mod names;
-mod parts;
 pub mod scope;

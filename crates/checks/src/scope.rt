@@ -1,6 +1,6 @@
 // The scope record: which names are open, and what a block or a procedure changes and its end gives
 // back.
-ghost use Rattle.std.specs.Prelude.{◌≡◌};
+ghost use Rattle.std.specs.Prelude.{◌≡◌, ◌≤◌};
 
 #[derive(Clone, Copy)]
 pub struct Scope {
@@ -12,6 +12,22 @@ pub struct Scope {
     pub offset: u32,
     // How many procedures stand around.
     pub level: u8,
+    ghost ordered: { start ≤ top },
+}
+
+impl Scope {
+    // A scope with no names yet, on top of so many.
+    pub fn on(top: usize) -> Self
+        ensures top { result.top ≡ top }
+        ensures start { result.start ≡ top }
+    {
+        Scope {
+            top,
+            start: top,
+            offset: 0,
+            level: 0,
+        }
+    }
 }
 
 // An open block or procedure: at its end, by its brace or by a refusal, the scope record is again
@@ -19,6 +35,22 @@ pub struct Scope {
 pub struct Enclosed<'a> {
     pub scope: &'a mut Scope,
     pub before: Scope,
+}
+
+impl<'a> Enclosed<'a> {
+    // Opens a scope with no names yet, inside the one that there is.
+    pub fn open(scope: &'a mut Scope) -> Self
+        ensures same_reference { result.scope.ghost_name ≡ scope.entry.ghost_name }
+        ensures top { result.scope.now.top ≡ scope.old.top }
+        ensures start { result.scope.now.start ≡ scope.old.top }
+        ensures offset { result.scope.now.offset ≡ scope.old.offset }
+        ensures level { result.scope.now.level ≡ scope.old.level }
+        ensures before { result.before ≡ scope.old }
+    {
+        let before = *scope;
+        scope.start = scope.top;
+        Enclosed { scope, before }
+    }
 }
 
 impl Drop for Enclosed<'_> {

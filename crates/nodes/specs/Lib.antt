@@ -1,1 +1,3 @@
+pub mod Rooted
 pub mod Shows
+pub mod Subtrees

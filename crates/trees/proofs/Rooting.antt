@@ -9,7 +9,7 @@ use Rattle.nodes.specs.declared.node.Node.{Node}
 use Rattle.tables.specs.Items.{items}
 use Rattle.nodes.specs.Shows.{Shows}
 use Rattle.parser.specs.Parsing.{Answered, Fitting, Parsed}
-use Rattle.checks.specs.Rooted.{Rooted}
+use Rattle.nodes.specs.Rooted.{Rooted}
 use Rattle.meaning.specs.Stages.{Break}
 use Rattle.checks.specs.Breaks.{first_break}
 

@@ -3,7 +3,7 @@ use Rattle.std.proofs.lemmas.Result.{err_from_is_err_and}
 use Rattle.tiny.specs.Scan.{scan}
 use Rattle.nodes.specs.declared.node.Node.{Node}
 use Rattle.nodes.specs.Shows.{Shows}
-use Rattle.checks.specs.Rooted.{Rooted}
+use Rattle.nodes.specs.Rooted.{Rooted}
 use Rattle.trees.proofs.Rooting.{rooted, no_break}
 use Rattle.trees.proofs.read_tree.Goals as goal
 

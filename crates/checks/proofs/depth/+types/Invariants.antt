@@ -1,7 +1,7 @@
 use Rattle.checks.proofs.depth.+types.Given as goal
 
 abbrev pub decreases-fields : goal.decreases-fields
-decreases-fields l = l.at
+decreases-fields l = l.tree.at
 
 abbrev pub decreases-type_tree : goal.decreases-type_tree
-decreases-type_tree l = l.at
+decreases-type_tree l = l.tree.at

@@ -1,0 +1,7 @@
+use Rattle.checks.proofs.names.Names.+types.Given as goal
+
+abbrev pub decreases-fields : goal.decreases-fields
+decreases-fields l = l.tree.at
+
+abbrev pub decreases-type_tree : goal.decreases-type_tree
+decreases-type_tree l = l.tree.at

@@ -1,0 +1,29 @@
+-- The parts of a record that shows a tree show trees too, and stand before it.
+use Rattle.std.proofs.Common.{◌≡◌, ℕ, ◌<◌, List, get_or}
+use Rattle.std.proofs.Math.Logic.{∥∥₁_map, ∥∥₁_elim}
+use Rattle.std.specs.Coded.{le_prop}
+use Rattle.tiny.specs.declared.tokens.Lexeme.{Lexeme}
+use Rattle.tiny.specs.declared.placed.Placed.{Placed}
+use Rattle.nodes.specs.declared.node.Node.{Node}
+use Rattle.nodes.specs.declared.node.Node.TheVariants.{Blank, Under, Join}
+use Rattle.nodes.specs.Rooted.{Rooted}
+use Rattle.nodes.proofs.Parts.{is_under, is_join}
+
+module _ {ns : List Node} {i : ℕ} (r : ∥ Rooted ns i ∥₁) {k : Placed Lexeme} where
+  pub part_rooted : {m : ℕ} → get_or ns i Blank ≡ Under k m → ∥ Rooted ns m ∥₁
+  part_rooted e = ∥∥₁_map r (λ r. let p = is_under _ _ r.shown e in record { source = r.source; tree = p.part; shown = p.shown })
+
+  pub part_before : {m : ℕ} → get_or ns i Blank ≡ Under k m → m < i
+  part_before e = ∥∥₁_elim r le_prop (λ r. (is_under _ _ r.shown e).before)
+
+  pub left_rooted : {m n : ℕ} → get_or ns i Blank ≡ Join k m n → ∥ Rooted ns m ∥₁
+  left_rooted e = ∥∥₁_map r (λ r. let p = is_join _ _ _ r.shown e in record { source = r.source; tree = p.left; shown = p.left_shown })
+
+  pub right_rooted : {m n : ℕ} → get_or ns i Blank ≡ Join k m n → ∥ Rooted ns n ∥₁
+  right_rooted e = ∥∥₁_map r (λ r. let p = is_join _ _ _ r.shown e in record { source = r.source; tree = p.right; shown = p.right_shown })
+
+  pub left_before : {m n : ℕ} → get_or ns i Blank ≡ Join k m n → m < i
+  left_before e = ∥∥₁_elim r le_prop (λ r. (is_join _ _ _ r.shown e).left_before)
+
+  pub right_before : {m n : ℕ} → get_or ns i Blank ≡ Join k m n → n < i
+  right_before e = ∥∥₁_elim r le_prop (λ r. (is_join _ _ _ r.shown e).right_before)
