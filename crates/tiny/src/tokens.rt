@@ -1,6 +1,6 @@
 // The kinds of tokens, and tokens as stretches of the source.
 ghost use Rattle.std.specs.Prelude.{◌≡◌};
-ghost use Rattle.tiny.specs.Token.{code, is, class};
+ghost use Rattle.tiny.specs.Token.{code, class};
 
 use crate::placed::Placed;
 use std::fmt;
@@ -105,12 +105,6 @@ impl From<Kind> for u8 {
 }
 
 impl Kind {
-    pub fn is(self, other: Kind) -> bool
-        ensures { result ≡ is self other }
-    {
-        self == other
-    }
-
     pub fn class(self) -> Class
         ensures { result ≡ class self }
     {
