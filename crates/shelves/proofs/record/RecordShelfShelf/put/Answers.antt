@@ -1,5 +1,4 @@
-use Rattle.std.proofs.Common.{min, length, sym, refl, ap, ◌∙◌, arith}
-use Rattle.std.proofs.lemmas.List.{length_push}
+use Rattle.std.proofs.Common.{min, length, sym, refl, ap, ◌∙◌, arith, length-append}
 use Rattle.machine.specs.Instructions.{lawful_all}
 use Rattle.tables.specs.Items.{items, capacity}
 use Rattle.shelves.proofs.Codes.{total_ones, put_full, put_fits, lawful_push}
@@ -15,7 +14,7 @@ pub invariant_of-self : goal.invariant_of-self
 invariant_of-self c =
     let s = c.args.self.now in
     record {
-      within = omega (arith, ap length c.push.ensures.added, length_push (items s.code) c.args.instruction);
+      within = omega (arith, simp length-append at (ap length c.push.ensures.added));
       kept = ap lawful_all c.push.ensures.added ∙ lawful_push (items s.code) c.args.instruction s.kept (sym c.if-not-is_lawful.ensures);
     }
 
