@@ -2,7 +2,7 @@
 use Rattle.std.proofs.Common.{◌≡◌, ℕ, suc, Bool, true, false, cond, List, [], ◌∷◌, ◌++◌, IsErrAnd, Some, Ok, Err, Result, sym, refl, ap, ◌∙◌, subst}
 use Rattle.std.proofs.lemmas.List.{append-nil}
 use Rattle.tiny.specs.declared.tokens.Kind.{Kind}
-use Rattle.tiny.specs.declared.tokens.Kind.TheVariants.{Dot, Name, IndexEnd, Brace}
+use Rattle.tiny.specs.declared.tokens.Kind.TheVariants.{Literal, Dot, Name, IndexEnd, Brace}
 use Rattle.tiny.specs.declared.tokens.Lexeme.{Lexeme}
 use Rattle.tiny.specs.declared.placed.Placed.{Placed}
 use Rattle.tiny.specs.Token.{Token, is}
@@ -12,9 +12,9 @@ use Rattle.syntax.specs.Grammar.{Sort, Listed, Bracket, item, separator, opening
 use Rattle.syntax.specs.Grammar.Sort.{e0, e1, e2, e3, e4, e5, e6, basic, content, list, enclosed}
 use Rattle.syntax.specs.Grammar.Listed.{declarations, statements, formals, fields, arguments}
 use Rattle.syntax.specs.Grammar.Bracket.{braces, formal_parens, actual_parens}
-use Rattle.syntax.specs.Parse.{Tail, Symbol, expect, further, behind, sort_rules, tail_rules, list_rules, chosen, may_lack, word_rules, blank, run, joined, undered, pushed, dropped, united}
+use Rattle.syntax.specs.Parse.{Tail, Symbol, expect, further, behind, sort_rules, tail_rules, list_rules, chosen, may_lack, word_rules, blank, run, joined, undered, titled, pushed, dropped, united}
 use Rattle.syntax.specs.Parse.Part.{whole, tail, rest}
-use Rattle.syntax.specs.Parse.Tail.{postfix?, factor?, logic?, minus?, plus?, relation?, assign?, more?, section_tail, statements?}
+use Rattle.syntax.specs.Parse.Tail.{postfix?, factor?, logic?, minus?, plus?, relation?, assign?, array?, more?, section_tail, statements?}
 use Rattle.syntax.specs.Parse.Symbol.{token, part, make}
 use Rattle.syntax.proofs.Telling.{All}
 use Rattle.syntax.proofs.Steps.{at_make, heads, by_behind, by_left, by_tail}
@@ -67,6 +67,20 @@ leafing k o = make (pushed o) ∷ []
 
 abbrev pub entering : Bracket → Kind → Token → List Symbol
 entering b k o = part (rest b o) ∷ []
+
+-- behind the token that begins a part: a procedure, the length of an array, the instructions of a block, a
+-- formal by reference
+abbrev pub naming_procedure : Kind → Token → List Symbol
+naming_procedure k o = token Name pushed ∷ expect (enclosed formal_parens) ∷ make titled ∷ expect (enclosed braces) ∷ make (joined o) ∷ []
+
+abbrev pub measuring : Kind → Token → List Symbol
+measuring k o = token Literal pushed ∷ token IndexEnd dropped ∷ make (joined o) ∷ further array? ∷ []
+
+abbrev pub sectioning : Kind → Token → List Symbol
+sectioning k o = make (undered o) ∷ further statements? ∷ []
+
+abbrev pub referring : Kind → Token → List Symbol
+referring k o = make (undered o) ∷ token Name undered ∷ []
 
 -- behind an operator of a tail: its right side, their node, and the tail again if it repeats
 abbrev pub again : Operators → Tail → List Symbol
@@ -165,10 +179,6 @@ separated l e h s = took (tail (more? l)) (joining (list l)) (λ o. (own l o, tt
     own formals o = refl
     own fields o = refl
     own arguments o = refl
-
-pub unseparated : {α γ : List Symbol} {c c₁ c₂ : Parser} {ss : List Slot} {p r : ℕ} {k : Kind} (l : Listed) → k ≡ separator l →
-    (c₂ ≡ c₁) × (stands (k ∷ []) (ahead c₁) ≡ false) → Stand α c (further (more? l) ∷ γ) ss c₁ p r → Stand α c γ ss c₂ p r
-unseparated l e x s = gone (more? l) (separator l ∷ []) (λ t. refl) refl (lacked_as e x) s
 
 -- an opening bracket
 pub bracketed : {c c₁ : Parser} {k : Kind} {t : Placed Lexeme} (b : Bracket) → k ≡ opening b → Took (k ∷ []) c t c₁ →

@@ -1,4 +1,5 @@
 // What stands in a block: declarations and instructions.
+// What blocks do not nest through stands out of line, so that a level of nesting takes little stack.
 ghost use Rattle.std.specs.Prelude.{◌≡◌, [], ◌∷◌};
 ghost use Rattle.syntax.specs.Grammar.{Sort};
 ghost use Rattle.syntax.specs.Grammar.Listed.{declarations};
@@ -76,7 +77,7 @@ impl Parser<'_, '_, '_> {
         self.field()
     }
 
-    // An instruction: a block, or one that begins with a word.
+    // An instruction. A block comes first, past the larger frame of the others.
     #[cycle(parts)]
     pub fn statement(&mut self) -> Result<usize, SyntaxCause>
         ensures { Reads (expect Sort.statement ∷ []) self.old result self.new }
@@ -87,7 +88,7 @@ impl Parser<'_, '_, '_> {
         self.action()
     }
 
-    // An instruction over an expression, a call, or one with blocks.
+    // An instruction over an expression, a call, or one with blocks; or else a block.
     #[cycle(parts)]
     #[inline(never)]
     fn action(&mut self) -> Result<usize, SyntaxCause>

@@ -1,4 +1,5 @@
 // Expressions, a function for each level: from what is done last, `=`, to names and literals.
+// Tails are read out of line, so that a level of nesting takes little stack.
 ghost use Rattle.std.specs.Prelude.{[], ◌∷◌};
 ghost use Rattle.syntax.specs.Grammar.{Sort};
 ghost use Rattle.syntax.specs.Parse.{expect, further};

@@ -1,4 +1,5 @@
 // Lists with a separator, and what stands in brackets.
+// What is behind an item is read out of line, so that a level of nesting takes little stack.
 ghost use Rattle.std.specs.Prelude.{[], ◌∷◌};
 ghost use Rattle.syntax.specs.Grammar.{Sort, item, contents};
 ghost use Rattle.syntax.specs.Parse.{Tail, expect};

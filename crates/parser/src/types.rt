@@ -1,4 +1,5 @@
-// Types, the fields of a struct, and the formals of a procedure.
+// Types, fields, and the formals of a procedure.
+// What structs do not nest through stands out of line, so that a level of nesting takes little stack.
 ghost use Rattle.std.specs.Prelude.{[], ◌∷◌};
 ghost use Rattle.syntax.specs.Grammar.{Sort};
 ghost use Rattle.syntax.specs.Parse.{Tail, expect, further};

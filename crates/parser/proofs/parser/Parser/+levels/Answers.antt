@@ -1,16 +1,15 @@
 -- Each answer follows the path of its function.
 use Rattle.std.proofs.Common.{[], ◌∷◌, sym, refl, ◌∙◌}
-use Rattle.tiny.specs.declared.tokens.Kind.TheVariants.{Dot, Close}
+use Rattle.tiny.specs.declared.tokens.Kind.TheVariants.{Dot}
 use Rattle.tiny.specs.Token.{prefixes}
-use Rattle.syntax.specs.Grammar.Sort.{e0, e3, e5, e6, basic}
-use Rattle.syntax.specs.Parse.{expect, further, dropped, prefix_rules}
+use Rattle.syntax.specs.Grammar.Sort.{e5, e6, basic}
+use Rattle.syntax.specs.Parse.{expect, further, prefix_rules}
 use Rattle.syntax.specs.Parse.Part.{whole}
-use Rattle.syntax.specs.Parse.Tail.{minus?, plus?}
-use Rattle.syntax.specs.Parse.Symbol.{token}
+use Rattle.syntax.specs.Parse.Tail.{plus?}
 use Rattle.parser.specs.Forms.{tail as tail_of}
 use Rattle.parser.proofs.Alike.{equal}
-use Rattle.parser.proofs.Stand.{start, call, call_on, skip, took, named, made_leaf, made_under, put_leaf, put_under, put_join, done, tailed, went, handed_on}
-use Rattle.parser.proofs.Ways.{fails, fails_on, lacks, broke, turned, lefted}
+use Rattle.parser.proofs.Stand.{start, call, call_on, took, named, made_leaf, made_under, put_leaf, put_under, put_join, done, tailed, went, handed_on}
+use Rattle.parser.proofs.Ways.{fails, fails_on, broke, turned, lefted}
 use Rattle.parser.proofs.Levels.{open0, open1, open2, open3, open4, open6, capping, leafing, operated, repeated, only_once, no_more, broke_off, select_name, handed}
 use Rattle.parser.proofs.parser.Parser.+levels.Goals as goal
 
@@ -37,14 +36,6 @@ sums-returns-in_err-left t c =
 
 pub sums-returns : goal.sums-returns
 sums-returns t c = handed_on c.further.result c.further.new.self c.further.ensures (call_on (further plus? ∷ []) c.in_ok-left.ensures (open2 _))
-
-pub difference-returns-in_err-left : goal.difference-returns-in_err-left
-difference-returns-in_err-left t c =
-    broke _ _ _ _ _ _ c.from_residual.ensures.1
-    (fails c.in_err-left.ensures (start (expect e3 ∷ further minus? ∷ []) _))
-
-pub difference-returns : goal.difference-returns
-difference-returns t c = handed_on c.further.result c.further.new.self c.further.ensures (call_on (further minus? ∷ []) c.in_ok-left.ensures (start (expect e3 ∷ further minus? ∷ []) _))
 
 pub logic-returns-in_err-left : goal.logic-returns-in_err-left
 logic-returns-in_err-left t c =
@@ -89,13 +80,6 @@ pub basic-returns-in-Some : goal.basic-returns-in-Some
 basic-returns-in-Some t c =
     done (put_leaf c.leaf.ensures (made_leaf (took (whole basic) leafing (λ o. (refl, (refl, (refl, (refl, tt))))) c.in-Some.ensures
     (start (expect basic ∷ []) _))))
-
-pub basic-returns-in_err-expect-2 : goal.basic-returns-in_err-expect-2
-basic-returns-in_err-expect-2 t c =
-    broke _ _ _ _ _ _ c.from_residual-in_err-expect-2.ensures.1
-    (lacks c.in_err-expect-2.ensures (call c.in_ok-inner.ensures
-    (took (whole basic) (λ k o. expect e0 ∷ token Close dropped ∷ []) (λ o. (refl, tt)) c.in_ok-expect.ensures
-    (skip c.in_default.ensures.0 (start (expect basic ∷ []) _)))))
 
 pub further-returns-in_err-right : goal.further-returns-in_err-right
 further-returns-in_err-right t c =

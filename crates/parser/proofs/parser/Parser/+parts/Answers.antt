@@ -1,18 +1,18 @@
 -- Each answer follows the path of its function.
 use Rattle.std.proofs.Common.{[], ◌∷◌, sym, refl, ◌∙◌}
-use Rattle.tiny.specs.declared.tokens.Kind.TheVariants.{Name, TypeWord, ProcWord, IfWord, ElseWord, WhileWord, ReadWord, WriteWord, NlWord, CallWord, Brace, BraceEnd, Ampersand, DoubleAmpersand, At}
+use Rattle.tiny.specs.declared.tokens.Kind.TheVariants.{Name, TypeWord, ProcWord, IfWord, ElseWord, WhileWord, ReadWord, WriteWord, NlWord, CallWord, Brace, BraceEnd, Ampersand, At}
 use Rattle.syntax.specs.Grammar.Sort.{e0, type, field, formal, declaration, statement, branches, content, list, enclosed}
 use Rattle.syntax.specs.Grammar.Listed.{declarations, fields}
-use Rattle.syntax.specs.Grammar.Bracket.{braces, formal_parens, actual_parens}
-use Rattle.syntax.specs.Parse.{expect, further, dropped, pushed, undered, joined, titled, word_rules, naming_rules}
+use Rattle.syntax.specs.Grammar.Bracket.{braces, actual_parens}
+use Rattle.syntax.specs.Parse.{expect, further, dropped, pushed, undered, joined, word_rules, naming_rules}
 use Rattle.syntax.specs.Parse.Part.{whole, tail}
-use Rattle.syntax.specs.Parse.Tail.{array?, else?, formal_name, section_tail, statements?}
+use Rattle.syntax.specs.Parse.Tail.{array?, else?, formal_name, section_tail}
 use Rattle.syntax.specs.Parse.Symbol.{token, make}
 use Rattle.parser.specs.Forms.{listed, bracket}
 use Rattle.parser.specs.Ahead.{ahead}
-use Rattle.parser.proofs.Stand.{start, call, call_on, skip, took, passed, named, capped_by, made_leaf, made_under, put_leaf, put_under, put_join, put_title, put_united, done, tailed, went, handed_on}
-use Rattle.parser.proofs.Ways.{fails, lacks, broke, gone, nor, nowhere, at_once, entered, lefted, neither, none_of}
-use Rattle.parser.proofs.Levels.{broke_off, only_block, opened, open_list, took_as, lacked_as, separated, unseparated, bracketed, joining, capping, leafing, handed, instructed, declared, instructed_then, nothing_then}
+use Rattle.parser.proofs.Stand.{start, call, skip, took, passed, named, capped_by, made_leaf, made_under, put_leaf, put_under, put_join, put_title, put_united, done, tailed, went, handed_on}
+use Rattle.parser.proofs.Ways.{fails, lacks, broke, gone, nor, at_once, entered, lefted, neither, none_of}
+use Rattle.parser.proofs.Levels.{only_block, opened, open_list, took_as, lacked_as, separated, bracketed, joining, capping, leafing, handed, instructed, declared, instructed_then, nothing_then, naming_procedure, sectioning, referring}
 use Rattle.parser.proofs.parser.Parser.+parts.Goals as goal
 
 pub list-returns-in_err-left : goal.list-returns-in_err-left
@@ -70,30 +70,20 @@ pub content-returns-then-instructs : goal.content-returns-then-instructs
 content-returns-then-instructs t c =
     handed c.list.result c.list.new.self (instructed (sym c.instructs.ensures ∙ c.if-instructs.true) (start (expect content ∷ []) _)) c.list.ensures
 
-pub sections-returns-in_err-left : goal.sections-returns-in_err-left
-sections-returns-in_err-left t c =
-    broke _ _ _ _ _ _ c.from_residual.ensures.1
-    (fails c.in_err-left.ensures (start (expect (list declarations) ∷ further section_tail ∷ []) _))
-
-pub sections-returns-in_err-token : goal.sections-returns-in_err-token
-sections-returns-in_err-token t c =
-    broke _ _ _ _ _ _ c.from_residual-in_err-token.ensures.1
-    (nowhere (tail section_tail) (DoubleAmpersand ∷ []) (λ t. refl) refl c.in_err-token.ensures (call c.in_ok-left.ensures (start (expect (list declarations) ∷ further section_tail ∷ []) _)))
-
 pub sections-returns-in_err-right : goal.sections-returns-in_err-right
 sections-returns-in_err-right t c =
     broke _ _ _ _ _ _ c.from_residual-in_err-right.ensures.1
-    (fails c.in_err-right.ensures (instructed_then (sym c.instructs.ensures ∙ c.if-instructs.true) (made_under (took (tail section_tail) (λ k o. make (undered o) ∷ further statements? ∷ []) (λ o. (refl, tt)) c.in_ok-token.ensures
+    (fails c.in_err-right.ensures (instructed_then (sym c.instructs.ensures ∙ c.if-instructs.true) (made_under (took (tail section_tail) sectioning (λ o. (refl, tt)) c.in_ok-token.ensures
     (call c.in_ok-left.ensures (start (expect (list declarations) ∷ further section_tail ∷ []) _))))))
 
 pub sections-returns-then-instructs : goal.sections-returns-then-instructs
 sections-returns-then-instructs t c =
-    done (put_united c.join.ensures (call c.in_ok-right.ensures (instructed_then (sym c.instructs.ensures ∙ c.if-instructs.true) (made_under (took (tail section_tail) (λ k o. make (undered o) ∷ further statements? ∷ []) (λ o. (refl, tt)) c.in_ok-token.ensures
+    done (put_united c.join.ensures (call c.in_ok-right.ensures (instructed_then (sym c.instructs.ensures ∙ c.if-instructs.true) (made_under (took (tail section_tail) sectioning (λ o. (refl, tt)) c.in_ok-token.ensures
     (call c.in_ok-left.ensures (start (expect (list declarations) ∷ further section_tail ∷ []) _)))))))
 
 pub sections-returns : goal.sections-returns
 sections-returns t c =
-    done (put_under c.under.ensures (nothing_then (sym c.instructs.ensures ∙ c.if-instructs.false) (made_under (took (tail section_tail) (λ k o. make (undered o) ∷ further statements? ∷ []) (λ o. (refl, tt)) c.in_ok-token.ensures
+    done (put_under c.under.ensures (nothing_then (sym c.instructs.ensures ∙ c.if-instructs.false) (made_under (took (tail section_tail) sectioning (λ o. (refl, tt)) c.in_ok-token.ensures
     (call c.in_ok-left.ensures (start (expect (list declarations) ∷ further section_tail ∷ []) _))))))
 
 pub declaration-returns-in-Some : goal.declaration-returns-in-Some
@@ -104,12 +94,12 @@ declaration-returns-in-Some t c =
 pub declaration-returns-in_err-right : goal.declaration-returns-in_err-right
 declaration-returns-in_err-right t c =
     broke _ _ _ _ _ _ c.from_residual-in_err-right.ensures.1
-    (fails c.in_err-right.ensures (put_title c.under-left.ensures (call c.in_ok-formals.ensures (named c.in_ok-title.ensures (took (whole declaration) (λ k o. token Name pushed ∷ expect (enclosed formal_parens) ∷ make titled ∷ expect (enclosed braces) ∷ make (joined o) ∷ []) (λ o. (refl, tt)) c.in-Some-take.ensures
+    (fails c.in_err-right.ensures (put_title c.under-left.ensures (call c.in_ok-formals.ensures (named c.in_ok-title.ensures (took (whole declaration) naming_procedure (λ o. (refl, tt)) c.in-Some-take.ensures
     (skip c.in_default.ensures.0 (start (expect declaration ∷ []) _)))))))
 
 pub declaration-returns-in-Some-take : goal.declaration-returns-in-Some-take
 declaration-returns-in-Some-take t c =
-    done (put_join c.join.ensures (call c.in_ok-right.ensures (put_title c.under-left.ensures (call c.in_ok-formals.ensures (named c.in_ok-title.ensures (took (whole declaration) (λ k o. token Name pushed ∷ expect (enclosed formal_parens) ∷ make titled ∷ expect (enclosed braces) ∷ make (joined o) ∷ []) (λ o. (refl, tt)) c.in-Some-take.ensures
+    done (put_join c.join.ensures (call c.in_ok-right.ensures (put_title c.under-left.ensures (call c.in_ok-formals.ensures (named c.in_ok-title.ensures (took (whole declaration) naming_procedure (λ o. (refl, tt)) c.in-Some-take.ensures
     (skip c.in_default.ensures.0 (start (expect declaration ∷ []) _))))))))
 
 pub declaration-returns : goal.declaration-returns
@@ -149,12 +139,12 @@ formal-returns-in_err-part t c =
 pub formal-returns-in_err-name : goal.formal-returns-in_err-name
 formal-returns-in_err-name t c =
     broke _ _ _ _ _ _ c.from_residual-in_err-name.ensures.1
-    (lacks c.in_err-name.ensures (put_under c.under-part.ensures (made_under (took (tail formal_name) (λ k o. make (undered o) ∷ token Name undered ∷ []) (λ o. (refl, tt)) c.in-Some.ensures
+    (lacks c.in_err-name.ensures (put_under c.under-part.ensures (made_under (took (tail formal_name) referring (λ o. (refl, tt)) c.in-Some.ensures
     (call c.in_ok-part.ensures (opened type formal (further formal_name ∷ []) (λ t. refl) _))))))
 
 pub formal-returns-in-Some : goal.formal-returns-in-Some
 formal-returns-in-Some t c =
-    done (put_under c.under.ensures (capped_by c.in_ok-name.ensures (put_under c.under-part.ensures (made_under (took (tail formal_name) (λ k o. make (undered o) ∷ token Name undered ∷ []) (λ o. (refl, tt)) c.in-Some.ensures
+    done (put_under c.under.ensures (capped_by c.in_ok-name.ensures (put_under c.under-part.ensures (made_under (took (tail formal_name) referring (λ o. (refl, tt)) c.in-Some.ensures
     (call c.in_ok-part.ensures (opened type formal (further formal_name ∷ []) (λ t. refl) _)))))))
 
 pub formal-returns-in_err-token : goal.formal-returns-in_err-token
@@ -210,24 +200,10 @@ content-returns t c =
 pub list-returns : goal.list-returns
 list-returns t c = handed_on c.more.result c.more.new.self c.more.ensures (call c.in_ok-left.ensures (open_list (listed c.args.of) _))
 
-pub more-returns-in_err-right : goal.more-returns-in_err-right
-more-returns-in_err-right t c =
-    let l = listed c.args.of in
-    broke_off _ _ _ _ _ _ c.from_residual.ensures.1
-    (λ u h. fails c.in_err-right.ensures (separated l c.separator.ensures c.in-Some.ensures (tailed _ u _ _ h)))
-
 pub more-returns-in-Some : goal.more-returns-in-Some
 more-returns-in-Some t c =
     let l = listed c.args.of in
     λ u h. went (put_join c.join.ensures (call c.in_ok-right.ensures (separated l c.separator.ensures c.in-Some.ensures (tailed _ u _ _ h))))
-
-pub more-returns : goal.more-returns
-more-returns t c =
-    let l = listed c.args.of in
-    λ u h. went (unseparated l c.separator.ensures c.in_default.ensures (tailed _ u _ _ h))
-
-pub whole_type-returns : goal.whole_type-returns
-whole_type-returns t c = handed_on c.lengths.result c.lengths.new.self c.lengths.ensures (call_on [] c.in_ok-left.ensures (start (expect type ∷ []) _))
 
 pub statement-returns-then-stands : goal.statement-returns-then-stands
 statement-returns-then-stands t c =

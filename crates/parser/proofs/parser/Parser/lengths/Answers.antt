@@ -1,30 +1,29 @@
 -- Each answer follows the path of the function.
 use Rattle.std.proofs.Common.{[], ◌∷◌, refl}
-use Rattle.tiny.specs.declared.tokens.Kind.TheVariants.{Literal, Index, IndexEnd}
-use Rattle.syntax.specs.Parse.{further, dropped, pushed, joined}
+use Rattle.tiny.specs.declared.tokens.Kind.TheVariants.{Index}
+use Rattle.syntax.specs.Parse.{further}
 use Rattle.syntax.specs.Parse.Part.{tail}
 use Rattle.syntax.specs.Parse.Tail.{array?}
-use Rattle.syntax.specs.Parse.Symbol.{token, make}
 use Rattle.parser.proofs.Stand.{start, took, passed, named, put_leaf, tailed, went}
 use Rattle.parser.proofs.Ways.{lacks, gone, turned}
-use Rattle.parser.proofs.Levels.{broke_off}
+use Rattle.parser.proofs.Levels.{broke_off, measuring}
 use Rattle.parser.proofs.parser.Parser.lengths.Goals as goal
 
 pub returns-in_err-length : goal.returns-in_err-length
 returns-in_err-length c =
     broke_off _ _ _ _ _ _ c.from_residual.ensures.1
-    (λ u h. lacks c.in_err-length.ensures (took (tail array?) (λ k o. token Literal pushed ∷ token IndexEnd dropped ∷ make (joined o) ∷ further array? ∷ []) (λ o. (refl, tt)) c.in-Some.ensures
+    (λ u h. lacks c.in_err-length.ensures (took (tail array?) measuring (λ o. (refl, tt)) c.in-Some.ensures
     (c.loop-token.invariant.goes _ _ _ _ _ (tailed _ u _ _ h))))
 
 pub returns-in_err-expect : goal.returns-in_err-expect
 returns-in_err-expect c =
     broke_off _ _ _ _ _ _ c.from_residual-in_err-expect.ensures.1
-    (λ u h. lacks c.in_err-expect.ensures (named c.in_ok-length.ensures (took (tail array?) (λ k o. token Literal pushed ∷ token IndexEnd dropped ∷ make (joined o) ∷ further array? ∷ []) (λ o. (refl, tt)) c.in-Some.ensures
+    (λ u h. lacks c.in_err-expect.ensures (named c.in_ok-length.ensures (took (tail array?) measuring (λ o. (refl, tt)) c.in-Some.ensures
     (c.loop-token.invariant.goes _ _ _ _ _ (tailed _ u _ _ h)))))
 
 pub loop-token-preserved : goal.loop-token-preserved
 loop-token-preserved c =
-    turned c.join-left.ensures (put_leaf c.leaf-right.ensures (passed c.in_ok-expect.ensures (named c.in_ok-length.ensures (took (tail array?) (λ k o. token Literal pushed ∷ token IndexEnd dropped ∷ make (joined o) ∷ further array? ∷ []) (λ o. (refl, tt)) c.in-Some.ensures
+    turned c.join-left.ensures (put_leaf c.leaf-right.ensures (passed c.in_ok-expect.ensures (named c.in_ok-length.ensures (took (tail array?) measuring (λ o. (refl, tt)) c.in-Some.ensures
     (start (further array? ∷ []) _)))))
     c.loop-token.invariant
 
