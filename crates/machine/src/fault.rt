@@ -1,6 +1,9 @@
 // Why a run ends before its Stop.
 ghost use Rattle.std.specs.Prelude.{◌≡◌};
+ghost use Rattle.machine.specs.declared.fault.Fault.TheVariants.{NoRoom, Unreadable};
 ghost use Rattle.machine.specs.Faults.{fault_number};
+
+use crate::host;
 
 #[derive(Clone, Copy, PartialEq, Eq, Debug)]
 pub enum Fault {
@@ -45,5 +48,21 @@ impl Fault {
             Fault::Address => 43,
             Fault::Link => 44,
         }
+    }
+}
+
+impl From<host::Unreadable> for Fault {
+    ghost from_gives = { λ _ fault. fault ≡ Unreadable };
+
+    fn from(_: host::Unreadable) -> Self {
+        Self::Unreadable
+    }
+}
+
+impl From<host::NoRoom> for Fault {
+    ghost from_gives = { λ _ fault. fault ≡ NoRoom };
+
+    fn from(_: host::NoRoom) -> Self {
+        Self::NoRoom
     }
 }

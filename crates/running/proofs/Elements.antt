@@ -1,11 +1,12 @@
 -- Laws of the address of an element: the sum is made in 64 bits, and they suffice.
 use Rattle.std.proofs.Common.{◌≡◌, ℕ, suc, ◌-◌, ◌*◌, ◌^◌, ◌<◌, ◌≤◌, true, false, cond, ltb, ℤ, pos, negsuc, ◌+ℤ◌, ◌*ℤ◌, nat_abs, Result, ap, mul-le-mul, arith, w32, w64, SFits, to_z, of_z}
 use lib.Signed.{lt_z}
-use Rattle.std.proofs.lemmas.Int.{to_z-of_z, to_z_pos}
+use Rattle.std.proofs.lemmas.Int.{to_z-of_z}
 use Rattle.std.proofs.lemmas.Bool.{false≢true, lt-ltb, cond_both}
 use Rattle.machine.specs.declared.fault.Fault.{Fault}
-use Rattle.machine.specs.Faults.{Answered}
-use Rattle.running.specs.Calculations.{address, element}
+use Rattle.machine.specs.Machine.{made}
+use Rattle.running.specs.Calculations.{element}
+use Rattle.running.specs.Settling.{Settles}
 
 pub wide : (z : ℤ) → SFits w32 z → SFits w64 z
 wide z f = record { sfits = omega (arith, f.sfits) }
@@ -29,18 +30,20 @@ sum_fits (negsuc b) (pos j) s g f n k =
 sum_fits a (negsuc j) s g f n k = absurd (false≢true (ap (λ b. cond b false true) n))
 
 -- an index in range
-pub in_bounds : (count size : ℕ) (a i : ℤ) (r : Result ℤ Fault) → lt_z i (pos 0) ≡ false → nat_abs i < count
-    → Answered (address (a +ℤ i *ℤ pos size)) r → Answered (element count size a i) r
-in_bounds count size a (pos j) r n h e = let t = lt-ltb j count h in simp t e
+pub in_bounds : (count size : ℕ) (a i : ℤ) (r : Result ℕ Fault) → lt_z i (pos 0) ≡ false → nat_abs i < count
+    → Settles (made (a +ℤ i *ℤ pos size)) r → Settles (element count size a i) r
+in_bounds count size a (pos j) r n h e = let t = lt-ltb j count h in record { goes_on = λ go. simp t (e.goes_on go) }
 in_bounds count size a (negsuc j) r n h e = absurd (false≢true (ap (λ b. cond b false true) n))
 
 -- the sum as it is made
-pub made_sum : (a i : ℤ) (s : ℕ) → SFits w32 a → SFits w32 i → lt_z i (pos 0) ≡ false → s < 2 ^ 32
-    → to_z w64 (of_z w64 (to_z w64 (of_z w64 (to_z w32 (of_z w32 a))) +ℤ to_z w64 (of_z w64 (to_z w64 (of_z w64 (to_z w32 (of_z w32 i))) *ℤ to_z w64 s)))) ≡ a +ℤ i *ℤ pos s
-made_sum a i s g f n k =
+pub made_sum : (a i b j k : ℤ) (s : ℕ) (r : Result ℕ Fault) → SFits w32 a → SFits w32 i → lt_z i (pos 0) ≡ false → s < 2 ^ 32
+    → b ≡ to_z w32 (of_z w32 a) → j ≡ to_z w32 (of_z w32 i) → k ≡ pos s
+    → Settles (made (to_z w64 (of_z w64 (to_z w64 (of_z w64 b) +ℤ to_z w64 (of_z w64 (to_z w64 (of_z w64 j) *ℤ to_z w64 (of_z w64 k))))))) r
+    → Settles (made (a +ℤ i *ℤ pos s)) r
+made_sum a i b j k s r g f n l eb ej ek h =
     let w = wide i f in
     let v = wide a g in
-    let d = distance_fits i s f n k in
-    let t = sum_fits a i s g f n k in
-    let e : to_z w64 s ≡ pos s = to_z_pos w64 s (omega arith) in
-    simp (to_z-of_z, e)
+    let d = distance_fits i s f n l in
+    let t = sum_fits a i s g f n l in
+    let u : SFits w64 (pos s) = record { sfits = omega arith } in
+    simp (eb, ej, ek, to_z-of_z) at h

@@ -72,3 +72,7 @@ known r count m p =
     ap (λ (s : Spec.Standing). record { standing = s; count = r.count; machine = r.machine }) p.standing
     ∙ ap (λ (c : ℕ). record { standing = going; count = c; machine = r.machine }) p.count
     ∙ ap (begun count) (p.registers refl)
+
+-- what shows a machine shows the same one
+pub shows_same : (r : Run) (s : Standing) (count : ℕ) (m n : Machine) → Shows r s count m → m ≡ n → Shows r s count n
+shows_same r s count m n h e = subst (Shows r s count) e h

@@ -1,8 +1,6 @@
 -- Definitions for a run: what the calls that carry it out make of the machine.
-pub mod Operators
-pub mod Bases
 pub mod Stacks
-pub mod Memory
+pub mod Settling
 pub mod Calculations
 pub mod Running
 pub mod Standings

@@ -1,12 +1,8 @@
 -- Operands as a list, the newest first, and what a push and a pop do to them.
-use Rattle.std.specs.Prelude.{◌≡◌, ℕ, ◌<◌, ◌≤◌, List, [], ◌∷◌, reverse, length, take, ℤ, Ok, Err, Result}
+use Rattle.std.specs.Prelude.{◌≡◌, ℕ, ◌<◌, ◌≤◌, List, [], ◌∷◌, length, ℤ, Ok, Err, Result}
 use Rattle.machine.specs.declared.fault.Fault.{Fault}
 use Rattle.machine.specs.declared.fault.Fault.TheVariants.{Operands}
 use Rattle.machine.specs.Faults.{Failed}
-
--- the operands that an array and a depth stand for
-abbrev pub held : List ℤ → ℕ → List ℤ
-held items depth = reverse (take depth items)
 
 abbrev pub Roomy : List ℤ → Result Unit Fault → Type 0
 Roomy before (Ok _) = length before < 128

@@ -2,13 +2,15 @@
 #![tactic(auto)]
 
 pub mod advance;
-mod arithmetic;
+pub mod bases;
 mod calculating;
 mod execute;
 mod flow;
 mod frames;
 mod memory;
 pub mod operands;
+mod operators;
 pub mod registers;
+mod run;
 mod storing;
 mod talking;

@@ -1,23 +1,31 @@
 // The operands of a run.
-ghost use Rattle.std.specs.Prelude.{◌≡◌, ◌≤◌, []};
-ghost use Rattle.running.specs.Stacks.{held, Roomy, Pushed, Popped};
+ghost use Rattle.std.specs.Prelude.{◌≡◌, ◌≤◌, List, [], ℤ, reverse, take};
+ghost use Rattle.running.specs.Stacks.{Roomy, Pushed, Popped};
 
 use machine::fault::Fault;
+use std::marker::Model;
 
 pub const MAX_OPERANDS: usize = 128;
 
-// The operands of a run, the newest last.
+// The operands of a run. Clauses see them as a list, the newest first.
 #[derive(Drop)]
 pub struct Operands {
     items: [i32; 128],
     depth: usize,
-    ghost within: { depth ≤ 128 },
+}
+
+impl Model for Operands {
+    ghost Value = { List ℤ };
+
+    ghost view = { λ s. reverse (take s.depth s.items) };
+
+    ghost invariant = { λ s. s.depth ≤ 128 };
 }
 
 impl Operands {
     // No operands.
     pub fn new() -> Self
-        ensures { held result.items result.depth ≡ [] }
+        ensures { result ≡ [] }
     {
         Operands {
             items: [0; 128],
@@ -27,17 +35,18 @@ impl Operands {
 
     // Whether there is room for one operand more; else a fault.
     pub(crate) fn room(&self) -> Result<(), Fault>
-        ensures { Roomy (held self.now.items self.now.depth) result }
+        ensures { Roomy self.now result }
     {
-        if self.depth >= MAX_OPERANDS {
-            return Err(Fault::Operands);
+        if self.depth < MAX_OPERANDS {
+            Ok(())
+        } else {
+            Err(Fault::Operands)
         }
-        Ok(())
     }
 
     // One operand more; a fault and no change where there are 128.
     pub(crate) fn push(&mut self, value: i32) -> Result<(), Fault>
-        ensures { Pushed (held self.old.items self.old.depth) value result (held self.new.items self.new.depth) }
+        ensures { Pushed self.old value result self.new }
     {
         if self.depth >= MAX_OPERANDS {
             return Err(Fault::Operands);
@@ -49,7 +58,7 @@ impl Operands {
 
     // Takes the newest operand away; a fault where there is none.
     pub(crate) fn pop(&mut self) -> Result<i32, Fault>
-        ensures { Popped (held self.old.items self.old.depth) result (held self.new.items self.new.depth) }
+        ensures { Popped self.old result self.new }
     {
         if self.depth == 0 {
             return Err(Fault::Operands);

@@ -1,116 +1,61 @@
 // Instructions that read items and write events.
-ghost use Rattle.machine.specs.declared.instruction.Instruction.TheVariants.{Geti, Getb, Puti, Putb, Nl};
-ghost use Rattle.machine.specs.Host.{as_int, as_bool};
+#![tactic(auto, using(crate::proofs::Settling::settling))]
+
+ghost use Rattle.std.specs.Prelude.{ℤ};
+ghost use Rattle.machine.specs.declared.host.Event.{Event};
 ghost use Rattle.machine.specs.Faults.{Answered};
-ghost use Rattle.machine.specs.Machine.{effect};
-ghost use Rattle.running.specs.Running.{machine_of, waiting, Told, Went};
+ghost use Rattle.machine.specs.Host.{Item, bit};
+ghost use Rattle.machine.specs.Ints.{Answer};
+ghost use Rattle.machine.specs.Machine.{get, say};
+ghost use Rattle.running.specs.Running.{Carried, Accepts, Makes, written};
 
-use crate::arithmetic::is_true;
 use crate::flow::Flow;
-use crate::memory::write_cell;
-use crate::registers::Registers;
+use crate::run::Run;
 use machine::fault::Fault;
-use machine::host::{Event, Host, Unreadable};
+use machine::host::{Event, Host};
 
-// The int that waits, if an int does.
-fn waiting_int<H: Host>(host: &H) -> Result<i32, Fault>
-    ensures { Answered (waiting as_int (H.Host.meaning host.now).items) result }
+// A number that is read as a bool: 0 or 1.
+pub(crate) fn bit(value: i32) -> Result<i32, Fault>
+    ensures { Answered (bit value) result }
 {
-    match host.look() {
-        None => Err(Fault::NoItem),
-        Some(Err(Unreadable)) => Err(Fault::Unreadable),
-        Some(Ok(value)) => Ok(value),
+    match value {
+        0 | 1 => Ok(value),
+        _ => Err(Fault::Unreadable),
     }
 }
 
-// The bool that waits, if a 0 or a 1 does.
-fn waiting_bool<H: Host>(host: &H) -> Result<i32, Fault>
-    ensures { Answered (waiting as_bool (H.Host.meaning host.now).items) result }
-{
-    match host.look() {
-        None => Err(Fault::NoItem),
-        Some(Err(Unreadable)) => Err(Fault::Unreadable),
-        Some(Ok(value)) => {
-            if 0 <= value && value <= 1 {
-                Ok(value)
-            } else {
-                Err(Fault::Unreadable)
-            }
-        }
+impl<H: Host> Run<'_, H> {
+    // Reads what `accept` makes of the number that waits to the address on top.
+    pub(crate) fn read<F: Fn(i32) -> Result<i32, Fault>>(
+        &mut self,
+        accept: F,
+    ) -> Result<Flow, Fault>
+        requires { F.IsAlwaysCallable accept }
+        ensures { (kind : Item → Answer) → Accepts (F.post accept) kind → Carried H.Host (get kind) self.old result self.new }
+    {
+        let address = self.registers.pop()?;
+        let number = self.host.look().ok_or(Fault::NoItem)??;
+        let value = accept(number)?;
+        let at = self.place(i64::from(address), 1)?;
+        self.cells[at] = value;
+        self.host.take();
+        Ok(Flow::Next)
     }
-}
 
-// Reads an int to the address on top.
-pub(crate) fn read_int<H: Host>(
-    registers: &mut Registers,
-    cells: &mut [i32],
-    host: &mut H,
-) -> Result<Flow, Fault>
-    ensures { Went (effect Geti (machine_of registers.old cells.old (H.Host.meaning host.old))) result (machine_of registers.old cells.old (H.Host.meaning host.old)) (machine_of registers.new cells.new (H.Host.meaning host.new)) }
-{
-    let at = registers.operands.pop()?;
-    let value = waiting_int(host)?;
-    write_cell(cells, at, value)?;
-    host.take();
-    Ok(Flow::Next)
-}
-
-// Reads a bool to the address on top.
-pub(crate) fn read_bool<H: Host>(
-    registers: &mut Registers,
-    cells: &mut [i32],
-    host: &mut H,
-) -> Result<Flow, Fault>
-    ensures { Went (effect Getb (machine_of registers.old cells.old (H.Host.meaning host.old))) result (machine_of registers.old cells.old (H.Host.meaning host.old)) (machine_of registers.new cells.new (H.Host.meaning host.new)) }
-{
-    let at = registers.operands.pop()?;
-    let value = waiting_bool(host)?;
-    write_cell(cells, at, value)?;
-    host.take();
-    Ok(Flow::Next)
-}
-
-// Writes an event.
-fn say<H: Host>(host: &mut H, event: Event) -> Result<Flow, Fault>
-    ensures { Told event result (H.Host.meaning host.old) (H.Host.meaning host.new) }
-{
-    match host.say(event) {
-        Ok(()) => Ok(Flow::Next),
-        Err(_) => Err(Fault::NoRoom),
+    // Writes an event.
+    pub(crate) fn say(&mut self, event: Event) -> Result<Flow, Fault>
+        ensures { Carried H.Host (λ m. say event m m.operands) self.old result self.new }
+    {
+        self.host.say(event)?;
+        Ok(Flow::Next)
     }
-}
 
-// Writes the int on top.
-pub(crate) fn write_int<H: Host>(
-    registers: &mut Registers,
-    cells: &[i32],
-    host: &mut H,
-) -> Result<Flow, Fault>
-    ensures { Went (effect Puti (machine_of registers.old cells.now (H.Host.meaning host.old))) result (machine_of registers.old cells.now (H.Host.meaning host.old)) (machine_of registers.new cells.now (H.Host.meaning host.new)) }
-{
-    let value = registers.operands.pop()?;
-    say(host, Event::Int(value))
-}
-
-// Writes the bool on top.
-pub(crate) fn write_bool<H: Host>(
-    registers: &mut Registers,
-    cells: &[i32],
-    host: &mut H,
-) -> Result<Flow, Fault>
-    ensures { Went (effect Putb (machine_of registers.old cells.now (H.Host.meaning host.old))) result (machine_of registers.old cells.now (H.Host.meaning host.old)) (machine_of registers.new cells.now (H.Host.meaning host.new)) }
-{
-    let value = registers.operands.pop()?;
-    say(host, Event::Bool(is_true(value)))
-}
-
-// Writes a newline.
-pub(crate) fn write_line<H: Host>(
-    registers: &Registers,
-    cells: &[i32],
-    host: &mut H,
-) -> Result<Flow, Fault>
-    ensures { Went (effect Nl (machine_of registers.now cells.now (H.Host.meaning host.old))) result (machine_of registers.now cells.now (H.Host.meaning host.old)) (machine_of registers.now cells.now (H.Host.meaning host.new)) }
-{
-    say(host, Event::Line)
+    // Writes the event that `event` makes of the value on top.
+    pub(crate) fn write<F: Fn(i32) -> Event>(&mut self, event: F) -> Result<Flow, Fault>
+        requires { F.IsAlwaysCallable event }
+        ensures { (made : ℤ → Event) → Makes (F.post event) made → Carried H.Host (written made) self.old result self.new }
+    {
+        let value = self.registers.pop()?;
+        self.say(event(value))
+    }
 }
