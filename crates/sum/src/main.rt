@@ -1,10 +1,13 @@
 // Runs the code of a recursive sum over both shelves and both hosts, and prints what it did.
 #![tactic(auto)]
 
+ghost use Rattle.std.specs.Prelude.{◌≤◌, length};
+
 mod program;
 
 use hosts::numbers::NumberHost;
 use hosts::text_host::TextHost;
+use machine::host::Host;
 use machine::instruction::Instruction;
 use machine::shelf::Shelf;
 use program::put_all;
@@ -22,40 +25,35 @@ fn report(rt: &HostRuntime, progress: Progress) -> io::Result<()> {
     println!(rt; "  {standing:?} after {spent} instructions")
 }
 
-// A run over 19 cells and a host of numbers.
-fn over_numbers<S: Shelf>(rt: &HostRuntime, shelf: &S) -> io::Result<()> {
+// A run over some cells and a host.
+fn run<S: Shelf, H: Host>(
+    rt: &HostRuntime,
+    shelf: &S,
+    cells: &mut [i32],
+    host: &mut H,
+) -> io::Result<()>
+    requires { length cells.old ≤ 1048576 }
+{
     let mut registers = Registers::new();
-    let mut cells = [7; 19];
-    let mut output = [0; 8];
-    let mut host = NumberHost::new(&[], &mut output);
-    let progress = advance(&mut registers, shelf, &mut cells, &mut host, BUDGET);
-    report(rt, progress)?;
-    let written = host.output();
-    println!(rt; "  numbers {written:?}")
+    let progress = advance(&mut registers, shelf, cells, host, BUDGET);
+    report(rt, progress)
 }
 
-// A run over 19 cells and a host of text.
-fn over_text<S: Shelf>(rt: &HostRuntime, shelf: &S) -> io::Result<()> {
-    let mut registers = Registers::new();
-    let mut cells = [7; 19];
+// Runs over a host of numbers and a host of text, and over too few cells.
+fn over_hosts<S: Shelf>(rt: &HostRuntime, shelf: &S) -> io::Result<()> {
     let mut output = [0; 8];
-    let mut host = TextHost::new(b"", &mut output);
-    let progress = advance(&mut registers, shelf, &mut cells, &mut host, BUDGET);
-    report(rt, progress)?;
-    let written = host.output();
-    println!(rt; "  bytes {written:?}")
-}
-
-// A run over 18 cells, which are too few.
-fn over_few_cells<S: Shelf>(rt: &HostRuntime, shelf: &S) -> io::Result<()> {
-    let mut registers = Registers::new();
-    let mut cells = [7; 18];
+    let mut numbers = NumberHost::new(&[], &mut output);
+    run(rt, shelf, &mut [7; 19], &mut numbers)?;
+    let written = numbers.output();
+    println!(rt; "  numbers {written:?}")?;
     let mut output = [0; 8];
-    let mut host = NumberHost::new(&[], &mut output);
-    report(
-        rt,
-        advance(&mut registers, shelf, &mut cells, &mut host, BUDGET),
-    )
+    let mut text = TextHost::new(b"", &mut output);
+    run(rt, shelf, &mut [7; 19], &mut text)?;
+    let written = text.output();
+    println!(rt; "  bytes {written:?}")?;
+    let mut output = [0; 8];
+    let mut numbers = NumberHost::new(&[], &mut output);
+    run(rt, shelf, &mut [7; 18], &mut numbers)
 }
 
 fn run_over<S: Shelf>(rt: &HostRuntime, name: &str, shelf: &mut S) -> io::Result<()> {
@@ -64,9 +62,7 @@ fn run_over<S: Shelf>(rt: &HostRuntime, name: &str, shelf: &mut S) -> io::Result
     }
     let count = shelf.count();
     println!(rt; "{name}: {count} instructions")?;
-    over_numbers(rt, shelf)?;
-    over_text(rt, shelf)?;
-    over_few_cells(rt, shelf)
+    over_hosts(rt, shelf)
 }
 
 fn main(rt: HostRuntime) -> io::Result<()> {

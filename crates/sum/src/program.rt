@@ -75,13 +75,7 @@ fn recursion() -> [Instruction; 15] {
 // Puts the whole code on a shelf.
 pub fn put_all<S: Shelf>(shelf: &mut S) -> Result<(), PutRefusal> {
     shelf.clear();
-    for instruction in outermost() {
-        shelf.put(instruction)?;
-    }
-    for instruction in addition() {
-        shelf.put(instruction)?;
-    }
-    for instruction in recursion() {
+    for instruction in outermost().into_iter().chain(addition()).chain(recursion()) {
         shelf.put(instruction)?;
     }
     Ok(())
