@@ -1,8 +1,7 @@
 -- Operands as a list, the newest first, and what a push and a pop do to them.
-use Rattle.std.specs.Prelude.{◌≡◌, ℕ, ◌<◌, ◌≤◌, List, [], ◌∷◌, length, ℤ, Ok, Err, Result}
+use Rattle.std.specs.Prelude.{◌≡◌, ◌<◌, ◌≤◌, List, [], ◌∷◌, length, ℤ, Ok, Err, Result}
 use Rattle.machine.specs.declared.fault.Fault.{Fault}
 use Rattle.machine.specs.declared.fault.Fault.TheVariants.{Operands}
-use Rattle.machine.specs.Faults.{Failed}
 
 abbrev pub Roomy : List ℤ → Result Unit Fault → Type 0
 Roomy before (Ok _) = length before < 128
@@ -15,8 +14,3 @@ Pushed before v (Err f) after = (f ≡ Operands) × (128 ≤ length before) × (
 abbrev pub Popped : List ℤ → Result ℤ Fault → List ℤ → Type 0
 Popped before (Ok v) after = (before ≡ v ∷ after) × (length after < 128)
 Popped before (Err f) after = (f ≡ Operands) × (before ≡ []) × (after ≡ [])
-
--- what a call makes of the operands: others, or a fault of this number
-abbrev pub Became : Result (List ℤ) ℕ → Result Unit Fault → List ℤ → Type 0
-Became (Ok ops) r after = (r ≡ Ok tt) × (after ≡ ops)
-Became (Err n) r after = Failed n r

@@ -13,16 +13,16 @@ use crate::flow::Flow;
 use crate::run::Run;
 use machine::fault::Fault;
 use machine::host::Host;
+use machine::instruction::MAX_OPERAND;
 
 // A number as an address.
 fn address(value: i64) -> Result<u32, Fault>
     ensures settles { Settles (made value) result }
     ensures range { IfOk result (λ address. address < 2147483648) }
 {
-    if 0 <= value && value <= 2147483647 {
-        Ok(value as u32)
-    } else {
-        Err(Fault::Address)
+    match u32::try_from(value) {
+        Ok(address) if address <= MAX_OPERAND => Ok(address),
+        _ => Err(Fault::Address),
     }
 }
 
