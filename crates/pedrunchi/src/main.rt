@@ -7,6 +7,7 @@ mod tokens;
 mod tree;
 
 use command::{Command, Misuse};
+use show::Listing;
 use std::alloc::AllocError;
 use std::process::ExitCode;
 use std::{env, io};
@@ -65,8 +66,16 @@ fn run(rt: &HostRuntime) -> Result<(), Ended> {
             println!(rt; "{}", command::HELP)?;
             Ok(())
         }
-        Command::Tokens(path) => tokens::list(rt, show::source(rt, path)?.as_slice()),
-        Command::Tree(path) => tree::draw(rt, show::source(rt, path)?.as_slice()),
+        Command::Tokens(path) => {
+            let bytes = show::source(rt, path)?;
+            let source = bytes.as_slice();
+            Listing { rt, source }.tokens()
+        }
+        Command::Tree(path) => {
+            let bytes = show::source(rt, path)?;
+            let source = bytes.as_slice();
+            Listing { rt, source }.tree()
+        }
     }
 }
 

@@ -6,6 +6,7 @@ use reports::lines::{Location, locate};
 use std::io::Write;
 use std::{fmt, fs, io};
 use tiny::scanner::MOST_BYTES;
+use tiny::tokens::Token;
 use trees::faults::TreeFault;
 
 // The bytes of a source file.
@@ -16,32 +17,62 @@ pub fn source(rt: &HostRuntime, path: String) -> Result<Vec<u8>, Ended> {
     }
 }
 
-// Writes bytes as they are.
-pub fn bytes(rt: &HostRuntime, text: &[u8]) -> io::Result<()> {
-    rt.stdout().write_all(text)
+// A source, and where what is told of it is printed.
+#[derive(Clone, Copy)]
+pub struct Listing<'a> {
+    pub rt: &'a HostRuntime,
+    pub source: &'a [u8],
 }
 
-// The line of a place, and a caret under the place. A tab stays a tab, and the later bytes of a
-// character take no room.
-fn caret(rt: &HostRuntime, source: &[u8], place: usize) -> io::Result<()> {
-    let Location { start, end, .. } = locate(source, place);
-    bytes(rt, stretch(source, start, end))?;
-    println!(rt; "")?;
-    for b in stretch(source, start, place) {
-        match *b {
-            b'\t' => print!(rt; "\t")?,
-            0x80..=0xbf => {}
-            _ => print!(rt; " ")?,
-        }
+impl<'a> Listing<'a> {
+    // The bytes of the source from a place up to another.
+    fn stretch(self, start: usize, end: usize) -> &'a [u8] {
+        let end = end.min(self.source.len());
+        self.source.get(start..end).unwrap_or_default()
     }
-    println!(rt; "^")
+
+    // Bytes of the source as they are, and the end of the line.
+    fn line(self, start: usize, end: usize) -> io::Result<()> {
+        self.rt.stdout().write_all(self.stretch(start, end))?;
+        println!(self.rt; "")
+    }
+
+    // The text of a token, and the end of the line.
+    pub fn token(self, token: Token) -> io::Result<()> {
+        self.line(token.place, token.what.end)
+    }
+
+    // The line of a place, and a caret under the place. A tab stays a tab, and the later bytes of a
+    // character take no room.
+    fn caret(self, place: usize) -> io::Result<()> {
+        let Location { start, end, .. } = locate(self.source, place);
+        self.line(start, end)?;
+        for b in self.stretch(start, place) {
+            match *b {
+                b'\t' => print!(self.rt; "\t")?,
+                0x80..=0xbf => {}
+                _ => print!(self.rt; " ")?,
+            }
+        }
+        println!(self.rt; "^")
+    }
+
+    // A refusal, and the line of the source. The line of a source that is too long is not shown.
+    pub fn refusal(self, fault: TreeFault) -> io::Result<()> {
+        let source = self.source;
+        println!(self.rt; "{}", Refusal { source, fault })?;
+        if source.len() > MOST_BYTES {
+            return Ok(());
+        }
+        self.caret(fault.place())
+    }
 }
 
 // Why a source has no tree: the refusal's number, what it means, and where it is.
 #[derive(Clone, Copy)]
-pub struct Refusal<'a> {
-    pub source: &'a [u8],
-    pub fault: TreeFault,
+struct Refusal<'a> {
+    source: &'a [u8],
+    fault: TreeFault,
 }
 
 impl Refusal<'_> {
@@ -73,18 +104,4 @@ impl fmt::Display for Refusal<'_> {
         self.meaning(f)?;
         write!(f, "\nat place {place}, line {line}, column {column}")
     }
-}
-
-// A refusal, and the line of the source. The line of a source that is too long is not shown.
-pub fn refused(rt: &HostRuntime, source: &[u8], fault: TreeFault) -> io::Result<()> {
-    println!(rt; "{}", Refusal { source, fault })?;
-    if source.len() > MOST_BYTES {
-        return Ok(());
-    }
-    caret(rt, source, fault.place())
-}
-
-// A stretch of the source.
-pub fn stretch(source: &[u8], start: usize, end: usize) -> &[u8] {
-    source.get(start..end.min(source.len())).unwrap_or_default()
 }

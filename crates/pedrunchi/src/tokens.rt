@@ -1,5 +1,6 @@
 // `pedrunchi tokens`: the tokens of a source, one to a line.
-use crate::{Ended, show};
+use crate::Ended;
+use crate::show::Listing;
 use parser::faults::ParseFault;
 use reports::lines::{Location, locate};
 use std::io;
@@ -7,29 +8,31 @@ use tiny::scanner::{Scanner, count_tokens};
 use tiny::tokens::Token;
 use trees::faults::TreeFault;
 
-// Every token with its place, line and column, class and text, and how many there are; or the first
-// refusal.
-pub fn list(rt: &HostRuntime, source: &[u8]) -> Result<(), Ended> {
-    let count = match count_tokens(source) {
-        Ok(count) => count,
-        Err(fault) => {
-            show::refused(rt, source, TreeFault::Parse(ParseFault::Scan(fault)))?;
-            return Err(Ended::Refused);
+impl Listing<'_> {
+    // Every token with its place, line and column, class and text, and how many there are; or the
+    // first refusal.
+    pub fn tokens(self) -> Result<(), Ended> {
+        let count = match count_tokens(self.source) {
+            Ok(count) => count,
+            Err(fault) => {
+                self.refusal(TreeFault::Parse(ParseFault::Scan(fault)))?;
+                return Err(Ended::Refused);
+            }
+        };
+        println!(self.rt; "place  line:column  class            text")?;
+        let mut scanner = Scanner::new(self.source);
+        while let Ok(Some(token)) = scanner.next() {
+            self.token_row(token)?;
         }
-    };
-    println!(rt; "place  line:column  class            text")?;
-    let mut scanner = Scanner::new(source);
-    while let Ok(Some(token)) = scanner.next() {
-        row(rt, source, token)?;
+        println!(self.rt; "{count} tokens")?;
+        Ok(())
     }
-    println!(rt; "{count} tokens")?;
-    Ok(())
-}
 
-fn row(rt: &HostRuntime, source: &[u8], token: Token) -> io::Result<()> {
-    let Location { line, column, .. } = locate(source, token.place);
-    let class = token.what.kind.class();
-    print!(rt; "{:>5}  {line:>4}:{column:<6}  {class:<15}  ", token.place)?;
-    show::bytes(rt, show::stretch(source, token.place, token.what.end))?;
-    println!(rt; "")
+    fn token_row(self, token: Token) -> io::Result<()> {
+        let place = token.place;
+        let Location { line, column, .. } = locate(self.source, place);
+        let class = token.what.kind.class();
+        print!(self.rt; "{place:>5}  {line:>4}:{column:<6}  {class:<15}  ")?;
+        self.token(token)
+    }
 }

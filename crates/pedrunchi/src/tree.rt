@@ -1,6 +1,8 @@
 // `pedrunchi tree`: the tree of a source, a node to a line, its parts indented below it.
-use crate::{Ended, show};
+use crate::Ended;
+use crate::show::Listing;
 use nodes::node::Node;
+use nodes::subtree::{Shape, Subtree};
 use std::io;
 use tables::table::Table;
 use tiny::tokens::{Kind, Token};
@@ -9,61 +11,54 @@ use trees::read_tree;
 // How many records a table has.
 const RECORDS: usize = 2048;
 
-// The tree of a source, or the first refusal.
-pub fn draw(rt: &HostRuntime, source: &[u8]) -> Result<(), Ended> {
-    let mut cells = vec![in rt.alloc(); Node::Blank; RECORDS]?;
-    let mut nodes = Table::over(cells.as_mut_slice());
-    match read_tree(source, &mut nodes) {
-        Ok(root) => {
-            branch(rt, source, &nodes, root, 0)?;
-            println!(rt; "{} records", nodes.len())?;
-            Ok(())
-        }
-        Err(fault) => {
-            show::refused(rt, source, fault)?;
-            Err(Ended::Refused)
+impl Listing<'_> {
+    // The tree of the source, or the first refusal.
+    pub fn tree(self) -> Result<(), Ended> {
+        let mut cells = vec![in self.rt.alloc(); Node::Blank; RECORDS]?;
+        let mut nodes = Table::over(cells.as_mut_slice());
+        match read_tree(self.source, &mut nodes) {
+            Ok(root) => {
+                self.branch(Subtree::new(nodes.as_slice(), root), 0)?;
+                println!(self.rt; "{} records", nodes.len())?;
+                Ok(())
+            }
+            Err(fault) => {
+                self.refusal(fault)?;
+                Err(Ended::Refused)
+            }
         }
     }
-}
 
-// The node at a number and its parts. Separators and brackets of lists have no line of their own.
-fn branch(
-    rt: &HostRuntime,
-    source: &[u8],
-    nodes: &Table<Node>,
-    at: usize,
-    depth: usize,
-) -> io::Result<()> {
-    match nodes.get(at) {
-        None | Some(Node::Blank) => Ok(()),
-        Some(Node::Leaf { token }) => row(rt, source, token, depth),
-        Some(Node::Under { token, part }) => {
-            let below = head(rt, source, token, depth)?;
-            if part < at {
-                branch(rt, source, nodes, part, below)?;
+    // A node and its parts. Separators and brackets of lists have no line of their own.
+    fn branch(self, tree: Subtree<'_>, depth: usize) -> io::Result<()> {
+        match tree.shape() {
+            Shape::Leaf { token } => self.node_row(token, depth),
+            Shape::Under { token, part } => {
+                let below = self.head(token, depth)?;
+                self.branch(part, below)
             }
-            Ok(())
-        }
-        Some(Node::Join { token, left, right }) => {
-            let below = head(rt, source, token, depth)?;
-            if left < at {
-                branch(rt, source, nodes, left, below)?;
+            Shape::Join { token, left, right } => {
+                let below = self.head(token, depth)?;
+                self.branch(left, below)?;
+                self.branch(right, below)
             }
-            if right < at {
-                branch(rt, source, nodes, right, below)?;
-            }
-            Ok(())
         }
     }
-}
 
-// The line of a node that has parts, and how deep its parts are.
-fn head(rt: &HostRuntime, source: &[u8], token: Token, depth: usize) -> io::Result<usize> {
-    if links(token.what.kind) {
-        return Ok(depth);
+    // The line of a node that has parts, and how deep its parts are.
+    fn head(self, token: Token, depth: usize) -> io::Result<usize> {
+        if links(token.what.kind) {
+            return Ok(depth);
+        }
+        self.node_row(token, depth)?;
+        Ok(depth.saturating_add(1))
     }
-    row(rt, source, token, depth)?;
-    Ok(depth.saturating_add(1))
+
+    fn node_row(self, token: Token, depth: usize) -> io::Result<()> {
+        let indent = depth.saturating_mul(2);
+        print!(self.rt; "{:>5}  {:indent$}", token.place, "")?;
+        self.token(token)
+    }
 }
 
 // Whether a token only holds a list together.
@@ -77,11 +72,4 @@ fn links(kind: Kind) -> bool {
             | Kind::ElseWord
             | Kind::Ampersand
     )
-}
-
-fn row(rt: &HostRuntime, source: &[u8], token: Token, depth: usize) -> io::Result<()> {
-    let indent = depth.saturating_mul(2);
-    print!(rt; "{:>5}  {:indent$}", token.place, "")?;
-    show::bytes(rt, show::stretch(source, token.place, token.what.end))?;
-    println!(rt; "")
 }

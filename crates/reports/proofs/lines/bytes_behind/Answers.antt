@@ -1,0 +1,13 @@
+use Rattle.std.proofs.Common.{rules, tests, sym, ◌∙◌}
+use Rattle.std.proofs.lemmas.Iterator.{YieldsList-from_slice}
+use Rattle.std.proofs.lemmas.Iterator.Consumers.{count_from_yields_List}
+use Rattle.std.proofs.lemmas.Iterator.Search.{YieldsList-from_take_while}
+use Rattle.std.proofs.lemmas.List.Folds.{length-prefix_len}
+use Rattle.reports.proofs.Counting.{within, length_counted}
+use Rattle.reports.proofs.lines.bytes_behind.Goals as goal
+
+pub returns-clause-count : goal.returns-clause-count
+returns-clause-count c =
+    let behind = c.args.behind.now in
+    let counted = count_from_yields_List _ c.count.result c.count.ensures.ran (YieldsList-from_take_while _ within (YieldsList-from_slice behind cc) c.take_while.ensures.closure c.take_while.ensures.done (λ x b q k. search (rules, tests))) in
+    counted ∙ length-prefix_len within behind ∙ sym (length_counted behind)
