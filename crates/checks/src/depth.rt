@@ -53,9 +53,10 @@ impl Depth {
         ensures { (d l : ℕ) → Counts self d l → Tells depth_break result (deeper 96 d token.place) }
     {
         if self.nodes as usize > MOST_DEEP {
-            let what = DepthCause::Node;
-            let place = token.place;
-            return Err(Placed { what, place });
+            return Err(Placed {
+                what: DepthCause::Node,
+                place: token.place,
+            });
         }
         Ok(())
     }
@@ -66,206 +67,207 @@ impl Depth {
     {
         self.node(name)?;
         if self.procedures as usize >= MOST_NESTED {
-            let what = DepthCause::Procedure;
-            let place = name.place;
-            return Err(Placed { what, place });
+            return Err(Placed {
+                what: DepthCause::Procedure,
+                place: name.place,
+            });
         }
         Ok(())
     }
-}
 
-fn expression(tree: Subtree<'_>, depth: Depth) -> Result<(), DepthFault>
-    ensures { DeepIs tree.entry depth result (λ t d l. deep (View.expression t) d) }
-{
-    match tree.shape() {
-        Shape::Leaf { token } => depth.node(token),
-        Shape::Under { token, part } => {
-            depth.node(token)?;
-            expression(part, depth.deeper())
-        }
-        Shape::Join { token, left, right } => {
-            expression(left, depth.deeper())?;
-            depth.node(token)?;
-            if token.what.kind == Kind::Dot {
-                return Ok(());
+    fn expression(self, tree: Subtree<'_>) -> Result<(), DepthFault>
+        ensures { DeepIs tree.entry self result (λ t d l. deep (View.expression t) d) }
+    {
+        match tree.shape() {
+            Shape::Leaf { token } => self.node(token),
+            Shape::Under { token, part } => {
+                self.node(token)?;
+                self.deeper().expression(part)
             }
-            expression(right, depth.deeper())
-        }
-    }
-}
-
-#[cycle(types)]
-fn type_tree(tree: Subtree<'_>, depth: Depth) -> Result<(), DepthFault>
-    ensures { DeepIs tree.entry depth result (λ t d l. deep_type (View.type_tree t) d) }
-{
-    match tree.shape() {
-        Shape::Leaf { token } => depth.node(token),
-        Shape::Under { token, part } => {
-            depth.node(token)?;
-            fields(part, depth.deeper())
-        }
-        Shape::Join { token, left, .. } => {
-            type_tree(left, depth.deeper())?;
-            depth.node(token)
-        }
-    }
-}
-
-#[cycle(types)]
-fn fields(tree: Subtree<'_>, depth: Depth) -> Result<(), DepthFault>
-    ensures { DeepIs tree.entry depth result (λ t d l. deep_fields (View.fields t Fields.no_field) d) }
-{
-    match tree.shape() {
-        Shape::Leaf { .. } => Ok(()),
-        Shape::Under { token, part } => {
-            type_tree(part, depth.deeper())?;
-            depth.node(token)
-        }
-        Shape::Join { left, right, .. } => {
-            fields(left, depth)?;
-            fields(right, depth)
-        }
-    }
-}
-
-fn formals(tree: Subtree<'_>, depth: Depth) -> Result<(), DepthFault>
-    ensures { DeepIs tree.entry depth result (λ t d l. deep_formals (View.formals t Formals.no_formal) d) }
-{
-    match tree.shape() {
-        Shape::Leaf { .. } => Ok(()),
-        Shape::Under { token, part } => {
-            if token.what.kind == Kind::Open {
-                return formals(part, depth);
+            Shape::Join { token, left, right } => {
+                self.deeper().expression(left)?;
+                self.node(token)?;
+                if token.what.kind == Kind::Dot {
+                    return Ok(());
+                }
+                self.deeper().expression(right)
             }
-            type_tree(part.formal_type(), depth.deeper())?;
-            depth.node(token)
-        }
-        Shape::Join { left, right, .. } => {
-            formals(left, depth)?;
-            formals(right, depth)
         }
     }
-}
 
-fn expressions(tree: Subtree<'_>, depth: Depth) -> Result<(), DepthFault>
-    ensures { DeepIs tree.entry depth result (λ t d l. deep_all (View.expressions t) d) }
-{
-    match tree.shape() {
-        Shape::Join { token, left, right } if token.what.kind == Kind::Comma => {
-            expression(left, depth)?;
-            expressions(right, depth)
-        }
-        _ => expression(tree, depth),
-    }
-}
-
-fn arguments(tree: Subtree<'_>, depth: Depth) -> Result<(), DepthFault>
-    ensures { DeepIs tree.entry depth result (λ t d l. deep_all (View.arguments t) d) }
-{
-    match tree.shape() {
-        Shape::Under { part, .. } => expressions(part, depth),
-        _ => Ok(()),
-    }
-}
-
-#[cycle(blocks)]
-fn declarations(tree: Subtree<'_>, depth: Depth) -> Result<(), DepthFault>
-    ensures { DeepIs tree.entry depth result (λ t d l. deep_declarations (View.declarations t DeclarationTrees.no_declaration) d l) }
-{
-    match tree.shape() {
-        Shape::Leaf { .. } => Ok(()),
-        Shape::Under { token, part } => match token.what.kind {
-            Kind::DoubleAmpersand => declarations(part, depth),
-            Kind::TypeWord => {
-                type_tree(part.part(), depth.deeper())?;
-                depth.node(part.token())
+    #[cycle(types)]
+    fn type_tree(self, tree: Subtree<'_>) -> Result<(), DepthFault>
+        ensures { DeepIs tree.entry self result (λ t d l. deep_type (View.type_tree t) d) }
+    {
+        match tree.shape() {
+            Shape::Leaf { token } => self.node(token),
+            Shape::Under { token, part } => {
+                self.node(token)?;
+                self.deeper().fields(part)
             }
-            Kind::Name => {
-                type_tree(part, depth.deeper())?;
-                depth.node(token)
+            Shape::Join { token, left, .. } => {
+                self.deeper().type_tree(left)?;
+                self.node(token)
             }
+        }
+    }
+
+    #[cycle(types)]
+    fn fields(self, tree: Subtree<'_>) -> Result<(), DepthFault>
+        ensures { DeepIs tree.entry self result (λ t d l. deep_fields (View.fields t Fields.no_field) d) }
+    {
+        match tree.shape() {
+            Shape::Leaf { .. } => Ok(()),
+            Shape::Under { token, part } => {
+                self.deeper().type_tree(part)?;
+                self.node(token)
+            }
+            Shape::Join { left, right, .. } => {
+                self.fields(left)?;
+                self.fields(right)
+            }
+        }
+    }
+
+    fn formals(self, tree: Subtree<'_>) -> Result<(), DepthFault>
+        ensures { DeepIs tree.entry self result (λ t d l. deep_formals (View.formals t Formals.no_formal) d) }
+    {
+        match tree.shape() {
+            Shape::Leaf { .. } => Ok(()),
+            Shape::Under { token, part } => {
+                if token.what.kind == Kind::Open {
+                    return self.formals(part);
+                }
+                self.deeper().type_tree(part.formal_type())?;
+                self.node(token)
+            }
+            Shape::Join { left, right, .. } => {
+                self.formals(left)?;
+                self.formals(right)
+            }
+        }
+    }
+
+    fn expressions(self, tree: Subtree<'_>) -> Result<(), DepthFault>
+        ensures { DeepIs tree.entry self result (λ t d l. deep_all (View.expressions t) d) }
+    {
+        match tree.shape() {
+            Shape::Join { token, left, right } if token.what.kind == Kind::Comma => {
+                self.expression(left)?;
+                self.expressions(right)
+            }
+            _ => self.expression(tree),
+        }
+    }
+
+    fn arguments(self, tree: Subtree<'_>) -> Result<(), DepthFault>
+        ensures { DeepIs tree.entry self result (λ t d l. deep_all (View.arguments t) d) }
+    {
+        match tree.shape() {
+            Shape::Under { part, .. } => self.expressions(part),
             _ => Ok(()),
-        },
-        Shape::Join { token, left, right } => match token.what.kind {
-            Kind::DoubleAmpersand => declarations(left, depth),
-            Kind::Semicolon => {
-                declarations(left, depth)?;
-                declarations(right, depth)
-            }
-            Kind::ProcWord => {
-                depth.procedure(left.token())?;
-                formals(left.part(), depth.deeper())?;
-                block(right, depth.deeper().inside())
-            }
-            _ => Ok(()),
-        },
-    }
-}
-
-#[cycle(blocks)]
-fn statements(tree: Subtree<'_>, depth: Depth) -> Result<(), DepthFault>
-    ensures { DeepIs tree.entry depth result (λ t d l. deep_statements (View.statements t Statements.no_statement) d l) }
-{
-    match tree.shape() {
-        Shape::Leaf { token } => depth.node(token),
-        Shape::Under { token, part } => match token.what.kind {
-            Kind::DoubleAmpersand => Ok(()),
-            Kind::At | Kind::ReadWord | Kind::WriteWord => {
-                depth.node(token)?;
-                expression(part, depth.deeper())
-            }
-            _ => block(tree, depth),
-        },
-        Shape::Join { token, left, right } => match token.what.kind {
-            Kind::DoubleAmpersand => statements(right, depth),
-            Kind::Semicolon => {
-                statements(left, depth)?;
-                statements(right, depth)
-            }
-            Kind::IfWord => {
-                depth.node(token)?;
-                expression(left, depth.deeper())?;
-                branches(right, depth.deeper())
-            }
-            Kind::WhileWord => {
-                depth.node(token)?;
-                expression(left, depth.deeper())?;
-                block(right, depth.deeper())
-            }
-            _ => {
-                depth.node(token)?;
-                depth.deeper().node(left.token())?;
-                arguments(right, depth.deeper())
-            }
-        },
-    }
-}
-
-// The one block of an `if`, or both.
-#[cycle(blocks)]
-fn branches(tree: Subtree<'_>, depth: Depth) -> Result<(), DepthFault>
-    ensures { DeepIs tree.entry depth result (λ t d l. deep_branches t d l) }
-{
-    match tree.shape() {
-        Shape::Join { left, right, .. } => {
-            block(left, depth)?;
-            block(right, depth)
         }
-        _ => block(tree, depth),
     }
-}
 
-#[cycle(blocks)]
-fn block(tree: Subtree<'_>, depth: Depth) -> Result<(), DepthFault>
-    ensures { DeepIs tree.entry depth result (λ t d l. deep_block (View.block t) d l) }
-{
-    match tree.shape() {
-        Shape::Leaf { token } | Shape::Join { token, .. } => depth.node(token),
-        Shape::Under { token, part } => {
-            depth.node(token)?;
-            let depth = depth.deeper();
-            declarations(part, depth)?;
-            statements(part, depth)
+    #[cycle(blocks)]
+    fn declarations(self, tree: Subtree<'_>) -> Result<(), DepthFault>
+        ensures { DeepIs tree.entry self result (λ t d l. deep_declarations (View.declarations t DeclarationTrees.no_declaration) d l) }
+    {
+        match tree.shape() {
+            Shape::Leaf { .. } => Ok(()),
+            Shape::Under { token, part } => match token.what.kind {
+                Kind::DoubleAmpersand => self.declarations(part),
+                Kind::TypeWord => {
+                    self.deeper().type_tree(part.part())?;
+                    self.node(part.token())
+                }
+                Kind::Name => {
+                    self.deeper().type_tree(part)?;
+                    self.node(token)
+                }
+                _ => Ok(()),
+            },
+            Shape::Join { token, left, right } => match token.what.kind {
+                Kind::DoubleAmpersand => self.declarations(left),
+                Kind::Semicolon => {
+                    self.declarations(left)?;
+                    self.declarations(right)
+                }
+                Kind::ProcWord => {
+                    self.procedure(left.token())?;
+                    self.deeper().formals(left.part())?;
+                    self.deeper().inside().block(right)
+                }
+                _ => Ok(()),
+            },
+        }
+    }
+
+    #[cycle(blocks)]
+    fn statements(self, tree: Subtree<'_>) -> Result<(), DepthFault>
+        ensures { DeepIs tree.entry self result (λ t d l. deep_statements (View.statements t Statements.no_statement) d l) }
+    {
+        match tree.shape() {
+            Shape::Leaf { token } => self.node(token),
+            Shape::Under { token, part } => match token.what.kind {
+                Kind::DoubleAmpersand => Ok(()),
+                Kind::At | Kind::ReadWord | Kind::WriteWord => {
+                    self.node(token)?;
+                    self.deeper().expression(part)
+                }
+                _ => self.block(tree),
+            },
+            Shape::Join { token, left, right } => match token.what.kind {
+                Kind::DoubleAmpersand => self.statements(right),
+                Kind::Semicolon => {
+                    self.statements(left)?;
+                    self.statements(right)
+                }
+                Kind::IfWord => {
+                    self.node(token)?;
+                    self.deeper().expression(left)?;
+                    self.deeper().branches(right)
+                }
+                Kind::WhileWord => {
+                    self.node(token)?;
+                    self.deeper().expression(left)?;
+                    self.deeper().block(right)
+                }
+                _ => {
+                    self.node(token)?;
+                    self.deeper().node(left.token())?;
+                    self.deeper().arguments(right)
+                }
+            },
+        }
+    }
+
+    // The one block of an `if`, or both.
+    #[cycle(blocks)]
+    fn branches(self, tree: Subtree<'_>) -> Result<(), DepthFault>
+        ensures { DeepIs tree.entry self result (λ t d l. deep_branches t d l) }
+    {
+        match tree.shape() {
+            Shape::Join { left, right, .. } => {
+                self.block(left)?;
+                self.block(right)
+            }
+            _ => self.block(tree),
+        }
+    }
+
+    #[cycle(blocks)]
+    fn block(self, tree: Subtree<'_>) -> Result<(), DepthFault>
+        ensures { DeepIs tree.entry self result (λ t d l. deep_block (View.block t) d l) }
+    {
+        match tree.shape() {
+            Shape::Leaf { token } | Shape::Join { token, .. } => self.node(token),
+            Shape::Under { token, part } => {
+                self.node(token)?;
+                let below = self.deeper();
+                below.declarations(part)?;
+                below.statements(part)
+            }
         }
     }
 }
@@ -280,5 +282,5 @@ pub fn check_depth(nodes: &[Node], root: usize) -> Result<(), DepthFault>
         nodes: 1,
         procedures: 0,
     };
-    block(Subtree::new(nodes, root), outermost)
+    outermost.block(Subtree::new(nodes, root))
 }

@@ -2,7 +2,7 @@ use Rattle.std.proofs.Common.{◌+◌, cond, ltb}
 use Rattle.meaning.specs.Stages.{deeper, break}
 use Rattle.checks.proofs.DepthViews.{declarations_type, declarations_variable, declarations_two, declarations_procedure, statements_two, statements_if, statements_while, statements_call, statements_block, statements_word, branches_join, branches_rest, block_under}
 use Rattle.checks.proofs.Steps.{ends, passes, stops, by, at_token}
-use Rattle.checks.proofs.depth.+blocks.Goals as goal
+use Rattle.checks.proofs.depth.Depth.+blocks.Goals as goal
 
 pub block-returns-in_err-node-in-Under : goal.block-returns-in_err-node-in-Under
 block-returns-in_err-node-in-Under t c = λ s u d l h k.
@@ -12,12 +12,12 @@ block-returns-in_err-node-in-Under t c = λ s u d l h k.
 pub block-returns-in_err-declarations-in-Under : goal.block-returns-in_err-declarations-in-Under
 block-returns-in_err-declarations-in-Under t c = λ s u d l h k.
     let j = c.in-Under.ensures.shown s u h in
-    by (block_under _ _ _ _ j.whole) (passes (c.in_ok-node-in-Under.ensures d l k) (stops _ c.from_residual-in_err-declarations-in-Under.ensures.1 (c.in_err-declarations-in-Under.ensures s _ _ l j.shown (c.deeper-depth.ensures d l k))))
+    by (block_under _ _ _ _ j.whole) (passes (c.in_ok-node-in-Under.ensures d l k) (stops _ c.from_residual-in_err-declarations-in-Under.ensures.1 (c.in_err-declarations-in-Under.ensures s _ _ l j.shown (c.deeper-below.ensures d l k))))
 
 pub block-returns-in_ok-declarations-in-Under : goal.block-returns-in_ok-declarations-in-Under
 block-returns-in_ok-declarations-in-Under t c = λ s u d l h k.
     let j = c.in-Under.ensures.shown s u h in
-    by (block_under _ _ _ _ j.whole) (passes (c.in_ok-node-in-Under.ensures d l k) (passes (c.in_ok-declarations-in-Under.ensures s _ _ l j.shown (c.deeper-depth.ensures d l k)) (ends (c.statements.ensures s _ _ l j.shown (c.deeper-depth.ensures d l k)))))
+    by (block_under _ _ _ _ j.whole) (passes (c.in_ok-node-in-Under.ensures d l k) (passes (c.in_ok-declarations-in-Under.ensures s _ _ l j.shown (c.deeper-below.ensures d l k)) (ends (c.statements.ensures s _ _ l j.shown (c.deeper-below.ensures d l k)))))
 
 pub branches-returns-in_err-block-in-Join : goal.branches-returns-in_err-block-in-Join
 branches-returns-in_err-block-in-Join t c = λ s u d l h k.

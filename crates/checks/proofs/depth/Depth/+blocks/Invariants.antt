@@ -1,5 +1,5 @@
 use Rattle.std.proofs.Common.{◌+◌, ◌*◌}
-use Rattle.checks.proofs.depth.+blocks.Given as goal
+use Rattle.checks.proofs.depth.Depth.+blocks.Given as goal
 
 abbrev pub decreases-block : goal.decreases-block
 decreases-block l = 2 * l.tree.at

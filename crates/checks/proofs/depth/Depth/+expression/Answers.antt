@@ -2,7 +2,7 @@ use Rattle.checks.proofs.DepthViews.{deep_under, deep_join}
 use Rattle.tiny.specs.declared.tokens.Kind.TheVariants.{Dot}
 use Rattle.nodes.proofs.KindTests.{told}
 use Rattle.checks.proofs.Steps.{nothing, ends, passes, stops, then_way, else_way, by}
-use Rattle.checks.proofs.depth.+expression.Goals as goal
+use Rattle.checks.proofs.depth.Depth.+expression.Goals as goal
 
 pub returns-in_err-node-in-Under : goal.returns-in_err-node-in-Under
 returns-in_err-node-in-Under t c = λ s u d l h k.

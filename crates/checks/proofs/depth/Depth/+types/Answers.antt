@@ -1,6 +1,6 @@
 use Rattle.checks.proofs.DepthViews.{type_under, type_join, fields_under, fields_join}
 use Rattle.checks.proofs.Steps.{ends, passes, stops, by}
-use Rattle.checks.proofs.depth.+types.Goals as goal
+use Rattle.checks.proofs.depth.Depth.+types.Goals as goal
 
 pub fields-returns-in_err-type_tree-in-Under : goal.fields-returns-in_err-type_tree-in-Under
 fields-returns-in_err-type_tree-in-Under t c = λ s u d l h k.

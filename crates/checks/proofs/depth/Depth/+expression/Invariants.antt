@@ -1,4 +1,4 @@
-use Rattle.checks.proofs.depth.+expression.Given as goal
+use Rattle.checks.proofs.depth.Depth.+expression.Given as goal
 
 abbrev pub decreases-expression : goal.decreases-expression
 decreases-expression l = l.tree.at

@@ -2,8 +2,8 @@ use Rattle.tiny.specs.declared.tokens.Kind.TheVariants.{Comma}
 use Rattle.nodes.proofs.KindTests.{told}
 use Rattle.checks.proofs.DepthViews.{all_join, all_rest}
 use Rattle.checks.proofs.Steps.{ends, passes, stops, then_way, else_way, by}
-use Rattle.checks.proofs.depth.+expressions.Goals as goal
-use Rattle.checks.proofs.depth.+expressions.Goals.{in_default-via-in-Join+else-eq, in_default-via-in_default}
+use Rattle.checks.proofs.depth.Depth.+expressions.Goals as goal
+use Rattle.checks.proofs.depth.Depth.+expressions.Goals.{in_default-via-in-Join+else-eq, in_default-via-in_default}
 
 pub returns-in_err-expression-in-Join : goal.returns-in_err-expression-in-Join
 returns-in_err-expression-in-Join t c = λ s u d l h k.

@@ -2,7 +2,7 @@ use Rattle.tiny.specs.declared.tokens.Kind.TheVariants.{Open}
 use Rattle.nodes.proofs.KindTests.{told}
 use Rattle.checks.proofs.DepthViews.{formals_under, formals_join}
 use Rattle.checks.proofs.Steps.{ends, passes, stops, else_way, by}
-use Rattle.checks.proofs.depth.+formals.Goals as goal
+use Rattle.checks.proofs.depth.Depth.+formals.Goals as goal
 
 pub returns-in_err-type_tree-in-Under : goal.returns-in_err-type_tree-in-Under
 returns-in_err-type_tree-in-Under t c = λ s u d l h k.

@@ -1,4 +1,4 @@
-use Rattle.checks.proofs.depth.+types.Given as goal
+use Rattle.checks.proofs.depth.Depth.+types.Given as goal
 
 abbrev pub decreases-fields : goal.decreases-fields
 decreases-fields l = l.tree.at
