@@ -27,8 +27,25 @@ impl Bases {
         Bases { items: [0; 9] }
     }
 
+    // The base of each level's frame, the outermost first.
+    pub fn of(items: [u32; 9]) -> Self
+        requires { All (λ b. b < 2147483648) items }
+        ensures { result ≡ items }
+    {
+        Bases { items }
+    }
+
+    // All of them, the outermost first.
+    pub fn all(&self) -> [u32; 9]
+        ensures value { result ≡ self.now }
+        ensures addresses { All (λ b. b < 2147483648) result }
+    {
+        let all = self.items;
+        all
+    }
+
     // The base of a level's frame, 0 where there is no such level.
-    pub(crate) fn get(&self, level: u8) -> u32
+    pub fn get(&self, level: u8) -> u32
         ensures value { result ≡ slice_index self.now level }
         ensures address { result < 2147483648 }
     {
@@ -36,7 +53,7 @@ impl Bases {
     }
 
     // Puts another base in the place of a level's, if there is such a level.
-    pub(crate) fn set(&mut self, level: u8, base: u32)
+    pub fn set(&mut self, level: u8, base: u32)
         requires { base < 2147483648 }
         ensures { self.new ≡ slice_set self.old level base }
     {

@@ -1,5 +1,5 @@
 // The operands of a run.
-ghost use Rattle.std.specs.Prelude.{◌≡◌, ◌≤◌, List, [], ℤ, reverse, take};
+ghost use Rattle.std.specs.Prelude.{◌≡◌, ◌≤◌, List, [], ℤ, length, reverse, take};
 ghost use Rattle.running.specs.Stacks.{Roomy, Pushed, Popped};
 
 use machine::fault::Fault;
@@ -31,6 +31,15 @@ impl Operands {
             items: [0; 128],
             depth: 0,
         }
+    }
+
+    // How many there are.
+    pub fn len(&self) -> usize
+        ensures value { result ≡ length self.now }
+        ensures most { result ≤ 128 }
+    {
+        let many = self.depth;
+        many
     }
 
     // Whether there is room for one operand more; else a fault.

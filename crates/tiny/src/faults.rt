@@ -1,6 +1,7 @@
 // Why a source is refused before it is parsed.
 ghost use Rattle.std.specs.Prelude.{◌≡◌};
 ghost use Rattle.tiny.specs.Refusals.{scan_number};
+ghost use Rattle.tiny.specs.Words.{cause_words};
 
 use crate::placed::Placed;
 use std::error::Error;
@@ -39,6 +40,18 @@ impl ScanCause {
             ScanCause::TooMany => 5,
         }
     }
+
+    // What the refusal means.
+    pub fn words(self) -> &'static str
+        ensures { result.now ≡ cause_words self }
+    {
+        match self {
+            ScanCause::TooLong => "the source is longer than 16384 bytes",
+            ScanCause::NoToken => "no token begins with this byte",
+            ScanCause::TooLarge => "this literal is outside int, -2147483648 to 2147483647",
+            ScanCause::TooMany => "this is the 2049th token, and 2048 are the most",
+        }
+    }
 }
 
 // What the refusal means.
@@ -49,14 +62,7 @@ impl fmt::Display for ScanCause {
     ghost output = { λ cause. Some (cause_words cause) };
 
     fn fmt<W: fmt::Write>(&self, f: &mut fmt::Formatter<W>) -> fmt::Result {
-        match self {
-            ScanCause::TooLong => f.write_str("the source is longer than 16384 bytes"),
-            ScanCause::NoToken => f.write_str("no token begins with this byte"),
-            ScanCause::TooLarge => {
-                f.write_str("this literal is outside int, -2147483648 to 2147483647")
-            }
-            ScanCause::TooMany => f.write_str("this is the 2049th token, and 2048 are the most"),
-        }
+        f.write_str(self.words())
     }
 }
 

@@ -1,6 +1,7 @@
 // The kinds of tokens, and tokens as stretches of the source.
 ghost use Rattle.std.specs.Prelude.{◌≡◌};
 ghost use Rattle.tiny.specs.Token.{code, class};
+ghost use Rattle.tiny.specs.Words.{class_words};
 
 use crate::placed::Placed;
 use std::fmt;
@@ -75,6 +76,21 @@ pub enum Class {
     Symbol,
 }
 
+impl Class {
+    // The class in words.
+    pub fn words(self) -> &'static str
+        ensures { result.now ≡ class_words self }
+    {
+        match self {
+            Class::Name => "name",
+            Class::Literal => "literal",
+            Class::Word => "word",
+            Class::Unused => "word of no rule",
+            Class::Symbol => "symbol",
+        }
+    }
+}
+
 impl fmt::Display for Class {
     ghost use Rattle.std.specs.Prelude.{Some};
     ghost use Rattle.std.specs.Fmt.{padded};
@@ -85,13 +101,7 @@ impl fmt::Display for Class {
     ghost styled_output = { λ class spec. Some (padded spec (class_words class)) };
 
     fn fmt<W: fmt::Write>(&self, f: &mut fmt::Formatter<W>) -> fmt::Result {
-        f.pad(match self {
-            Class::Name => "name",
-            Class::Literal => "literal",
-            Class::Word => "word",
-            Class::Unused => "word of no rule",
-            Class::Symbol => "symbol",
-        })
+        f.pad(self.words())
     }
 }
 
