@@ -11,10 +11,7 @@ use trees::faults::TreeFault;
 
 // The bytes of a source file.
 pub fn source(rt: &HostRuntime, path: String) -> Result<Vec<u8>, Ended> {
-    match fs::read(rt, path.as_str()) {
-        Ok(bytes) => Ok(bytes),
-        Err(error) => Err(Ended::Unread(path, error)),
-    }
+    fs::read(rt, path.as_str()).map_err(|error| Ended::Unread(path, error))
 }
 
 // A source, and where what is told of it is printed.

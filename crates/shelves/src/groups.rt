@@ -41,10 +41,10 @@ pub(crate) fn read_groups(bytes: &[u8], most: usize) -> Option<(u64, &[u8])>
     }
     match bytes {
         [] => None,
-        [last, rest @ ..] if *last < 128 => Some((*last as u64, rest)),
+        [last, rest @ ..] if *last < 128 => Some((u64::from(*last), rest)),
         [group, rest @ ..] => {
             let (high, rest) = read_groups(rest, most - 1)?;
-            Some((*group as u64 - 128 + 128 * high, rest))
+            Some((u64::from(*group) - 128 + 128 * high, rest))
         }
     }
 }

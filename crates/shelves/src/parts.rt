@@ -45,7 +45,7 @@ impl From<Instruction> for Parts {
     fn from(instruction: Instruction) -> Self {
         let (code, operands) = match instruction {
             Instruction::Lit(value) => (0, [fold_sign(value), 0, 0]),
-            Instruction::Var(level, at) => (1, [level as u32, at, 0]),
+            Instruction::Var(level, at) => (1, [u32::from(level), at, 0]),
             Instruction::Off(offset) => (2, [offset, 0, 0]),
             Instruction::Ld => (3, [0, 0, 0]),
             Instruction::St => (4, [0, 0, 0]),
@@ -74,10 +74,10 @@ impl From<Instruction> for Parts {
             Instruction::Puti => (27, [0, 0, 0]),
             Instruction::Putb => (28, [0, 0, 0]),
             Instruction::Nl => (29, [0, 0, 0]),
-            Instruction::Zero(level, at, size) => (30, [level as u32, at, size]),
+            Instruction::Zero(level, at, size) => (30, [u32::from(level), at, size]),
             Instruction::Frame(size) => (31, [size, 0, 0]),
-            Instruction::Enter(level, target) => (32, [level as u32, target, 0]),
-            Instruction::Leave(level) => (33, [level as u32, 0, 0]),
+            Instruction::Enter(level, target) => (32, [u32::from(level), target, 0]),
+            Instruction::Leave(level) => (33, [u32::from(level), 0, 0]),
             Instruction::Dup => (34, [0, 0, 0]),
             Instruction::Pop => (35, [0, 0, 0]),
             Instruction::Stop => (36, [0, 0, 0]),
