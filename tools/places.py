@@ -51,7 +51,7 @@ def twins(files):
     groups = collections.defaultdict(list)
     for name, function, _, rest in functions(files):
         text = body(rest)
-        if text.count("\n") >= 3:
+        if text.count("\n") >= 2:
             groups[shape(text)].append(f"{name}: {function}")
     return [" = ".join(g) for g in groups.values() if len(g) > 1]
 
@@ -90,7 +90,7 @@ def main():
     proofs = [n for n in git("ls-tree", "-r", "--name-only", commit, "--", "crates").split() if "/proofs/" in n]
     points = [
         ("1 enums", lines(files, r"^\s*(pub(\([a-z]+\))? )?enum ")),
-        ("1 numbers for kinds and refusals", lines(files, r"\bcode: u8|\.code\(\)|if code [<=]|-> \(u8, usize\)|\(u8, usize\)[,)]|Result<.*, (u8|usize)>$|Refused\(\d")),
+        ("1 numbers for kinds and refusals", lines(files, r"\bcode: u8|\.code\(\)|if code [<=]|-> \(u8, usize\)|\(u8, usize\)[,)>]|Result<.*, (u8|usize)>$|Refused\(\d")),
         ("1 flags", lines(files, r"fn \w+.*\w+: bool|^\s*(pub )?\w+: bool,")),
         ("2 functions of one shape", twins(files)),
         ("3 loops", lines(files, r"^\s*(while|for|loop)\b(?!.*\{ ?ghost)")),
@@ -98,7 +98,7 @@ def main():
         ("5 clauses of three or more functions", requirements(files)),
         ("5 parameters together in three or more functions", travelling(files)),
         ("6 a buffer with a number beside it", buffers(files)),
-        ("7 numbers or enums that say which function runs", lines(files, r"enum Operator|fn \w+.*(operator: Operator|: bool)[,)]")),
+        ("7 matches and flags that say which function runs", lines(files, r"match (operator|of|by|instruction) \{|fn \w+.*(blanks|present): bool")),
         ("8 answers and invariants", [n for n in proofs if re.search(r"/(Answers|Invariants|Proof)\.antt$", n)]),
         ("8 files of lemmas", [n for n in proofs if re.search(r"proofs/[A-Z]\w*\.antt$", n) and not n.endswith("/Lib.antt")]),
     ]
