@@ -1,7 +1,7 @@
-use Rattle.std.proofs.Common.{Err, sym, ap, ◌∙◌, arith}
+use Rattle.std.proofs.Common.{Err, sym, ap, ◌∙◌}
 use Rattle.std.proofs.lemmas.Result.{err_from_is_err_and}
 use Rattle.tiny.specs.Scan.{counted}
-use Rattle.tiny.proofs.Counted.{plus_none, scan_long, count_ends, count_breaks, counts_on}
+use Rattle.tiny.proofs.Counted.{scan_long, count_ends, count_breaks}
 use Rattle.tiny.proofs.scanner.count_tokens.Goals as goal
 
 pub returns-then-source-gt-MOST_BYTES : goal.returns-then-source-gt-MOST_BYTES
@@ -16,18 +16,3 @@ pub returns : goal.returns
 returns c =
     let next = c.in_ok-next.ensures in
     count_ends c.args.source.now c.loop.scanner.read _ c.if-source-gt-MOST_BYTES.false c.loop.invariant.1 c.loop.scanner.source.now _ _ _ (sym c.if-is_some.ensures) next.left next.read
-
-pub loop-init : goal.loop-init
-loop-init c = let new = c.new-scanner.ensures in (new.source, rw (new.read, new.at, new.source) (plus_none _))
-
-pub loop-preserved : goal.loop-preserved
-loop-preserved c =
-    let next = c.in_ok-next.ensures in
-    let (one, more) = counts_on c.loop.scanner.source.now c.loop.scanner.read _ _ _ _ (sym c.if-is_some.ensures) next.left next.read in
-    (ap (λ r. r.now) next.source ∙ c.loop.invariant.0, c.loop.invariant.1 ∙ more)
-
-pub loop-smaller : goal.loop-smaller
-loop-smaller c =
-    let next = c.in_ok-next.ensures in
-    let (one, more) = counts_on c.loop.scanner.source.now c.loop.scanner.read _ _ _ _ (sym c.if-is_some.ensures) next.left next.read in
-    omega arith
