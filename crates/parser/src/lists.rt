@@ -53,7 +53,7 @@ impl Parser<'_, '_, '_> {
         ensures { Reads (expect (Sort.enclosed (bracket by)) ∷ []) self.old result self.new }
     {
         let token = self.expect(&[by.opening()])?;
-        if let Some(_) = self.take(&[by.closing()]) {
+        if self.take(&[by.closing()]).is_some() {
             return Ok(self.add(Node::Leaf { token }));
         }
         let part = self.contents(by)?;

@@ -12,7 +12,7 @@ use Rattle.parser.specs.Forms.{listed, bracket}
 use Rattle.parser.specs.Ahead.{ahead}
 use Rattle.parser.proofs.Stand.{start, call, skip, took, passed, named, capped_by, made_leaf, made_under, put_leaf, put_under, put_join, put_title, put_united, done, tailed, went, handed_on}
 use Rattle.parser.proofs.Ways.{fails, lacks, broke, gone, nor, at_once, entered, lefted, neither, none_of}
-use Rattle.parser.proofs.Levels.{only_block, opened, open_list, took_as, lacked_as, separated, bracketed, joining, capping, leafing, handed, instructed, declared, instructed_then, nothing_then, naming_procedure, sectioning, referring}
+use Rattle.parser.proofs.Levels.{only_block, opened, open_list, took_as, lacked_as, one_taken, none_taken, separated, bracketed, joining, capping, leafing, handed, instructed, declared, instructed_then, nothing_then, naming_procedure, sectioning, referring}
 use Rattle.parser.proofs.parser.Parser.+parts.Goals as goal
 
 pub list-returns-in_err-left : goal.list-returns-in_err-left
@@ -20,29 +20,29 @@ list-returns-in_err-left t c =
     broke _ _ _ _ _ _ c.from_residual.ensures.1
     (fails c.in_err-left.ensures (open_list (listed c.args.of) _))
 
-pub enclosed-returns-in-Some : goal.enclosed-returns-in-Some
-enclosed-returns-in-Some t c =
+pub enclosed-returns-then-is_some : goal.enclosed-returns-then-is_some
+enclosed-returns-then-is_some t c =
     let b = bracket c.args.by in
-    done (put_leaf c.add.ensures (at_once b (took_as c.closing.ensures c.in-Some.ensures) (bracketed b c.opening.ensures c.in_ok-token.ensures)))
+    done (put_leaf c.add.ensures (at_once b (took_as c.closing.ensures (one_taken _ c.take.ensures (sym c.is_some.ensures ∙ c.if-is_some.true)).1) (bracketed b c.opening.ensures c.in_ok-token.ensures)))
 
 pub enclosed-returns-in_err-part : goal.enclosed-returns-in_err-part
 enclosed-returns-in_err-part t c =
     let b = bracket c.args.by in
     broke _ _ _ _ _ _ c.from_residual-in_err-part.ensures.1
-    (fails c.in_err-part.ensures (entered b (lacked_as c.closing.ensures c.in_default.ensures) (bracketed b c.opening.ensures c.in_ok-token.ensures)))
+    (fails c.in_err-part.ensures (entered b (lacked_as c.closing.ensures (none_taken (c.closing.result ∷ []) _ c.take.ensures (sym c.is_some.ensures ∙ c.if-is_some.false))) (bracketed b c.opening.ensures c.in_ok-token.ensures)))
 
 pub enclosed-returns-in_err-expect : goal.enclosed-returns-in_err-expect
 enclosed-returns-in_err-expect t c =
     let b = bracket c.args.by in
     broke _ _ _ _ _ _ c.from_residual-in_err-expect.ensures.1
-    (lacks (lacked_as c.closing-2.ensures c.in_err-expect.ensures) (made_under (call c.in_ok-part.ensures (entered b (lacked_as c.closing.ensures c.in_default.ensures)
+    (lacks (lacked_as c.closing-2.ensures c.in_err-expect.ensures) (made_under (call c.in_ok-part.ensures (entered b (lacked_as c.closing.ensures (none_taken (c.closing.result ∷ []) _ c.take.ensures (sym c.is_some.ensures ∙ c.if-is_some.false)))
     (bracketed b c.opening.ensures c.in_ok-token.ensures)))))
 
 pub enclosed-returns : goal.enclosed-returns
 enclosed-returns t c =
     let b = bracket c.args.by in
     done (put_under c.add-2.ensures (passed (took_as c.closing-2.ensures c.in_ok-expect.ensures) (made_under (call c.in_ok-part.ensures
-    (entered b (lacked_as c.closing.ensures c.in_default.ensures) (bracketed b c.opening.ensures c.in_ok-token.ensures))))))
+    (entered b (lacked_as c.closing.ensures (none_taken (c.closing.result ∷ []) _ c.take.ensures (sym c.is_some.ensures ∙ c.if-is_some.false))) (bracketed b c.opening.ensures c.in_ok-token.ensures))))))
 
 pub branches-returns-in_err-left : goal.branches-returns-in_err-left
 branches-returns-in_err-left t c =
