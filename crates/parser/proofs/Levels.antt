@@ -1,5 +1,5 @@
 -- Where the levels of expressions begin, and what goes on from them.
-use Rattle.std.proofs.Common.{◌≡◌, ℕ, suc, Bool, true, false, cond, List, [], ◌∷◌, ◌++◌, IsErrAnd, Some, Ok, Err, Result, sym, refl, ap, ◌∙◌, subst}
+use Rattle.std.proofs.Common.{◌≡◌, ℕ, suc, Bool, true, false, cond, List, [], ◌∷◌, ◌++◌, IsErrAnd, None, Some, Ok, Err, Option, is_some, Result, sym, refl, ap, ◌∙◌, subst}
 use Rattle.std.proofs.lemmas.List.{append-nil}
 use Rattle.tiny.specs.declared.tokens.Kind.{Kind}
 use Rattle.tiny.specs.declared.tokens.Kind.TheVariants.{Literal, Dot, Name, IndexEnd, Brace}
@@ -22,7 +22,7 @@ use Rattle.parser.specs.declared.parser.Parser.{Parser}
 use Rattle.parser.specs.declared.faults.SyntaxCause.{SyntaxCause}
 use Rattle.nodes.specs.Shows.{Shows}
 use Rattle.parser.specs.Rest.{among}
-use Rattle.parser.specs.Ahead.{ahead, source_of, records, stands, Took}
+use Rattle.parser.specs.Ahead.{ahead, source_of, records, stands, Taken, Took}
 use Rattle.parser.specs.Forms.{operators, repeats, selecting, operand}
 use Rattle.parser.specs.Forms.{tail as tail_of}
 use Rattle.parser.specs.declared.forms.Tail.{Tail as Operators}
@@ -166,6 +166,15 @@ took_as {c = c} {c' = c'} {t = t} e h = subst (λ i. Took (i ∷ []) c t c') e h
 
 pub lacked_as : {k j : Kind} {c c' : Parser} → k ≡ j → (c' ≡ c) × (stands (k ∷ []) (ahead c) ≡ false) → (c' ≡ c) × (stands (j ∷ []) (ahead c) ≡ false)
 lacked_as {c = c} e (same, none) = (same, subst (λ i. stands (i ∷ []) (ahead c) ≡ false) e none)
+
+-- whether a token was taken tells which of both befell
+pub one_taken : {ks : List Kind} {c c' : Parser} (o : Option (Placed Lexeme)) → Taken ks c o c' → is_some o ≡ true → (t : Placed Lexeme) × Took ks c t c'
+one_taken None h e = opposed (sym e)
+one_taken (Some t) h e = (t, h)
+
+pub none_taken : (ks : List Kind) {c c' : Parser} (o : Option (Placed Lexeme)) → Taken ks c o c' → is_some o ≡ false → (c' ≡ c) × (stands ks (ahead c) ≡ false)
+none_taken ks None h e = h
+none_taken ks (Some t) h e = opposed e
 
 -- the separator, and the list behind it
 pub separated : {α γ : List Symbol} {c c₁ c₂ : Parser} {ss : List Slot} {p r : ℕ} {k : Kind} {t : Placed Lexeme} (l : Listed) → k ≡ separator l →

@@ -1,5 +1,6 @@
 -- How the tokens ahead go on as the scanner reads one more.
-use Rattle.std.proofs.Common.{◌≡◌, ℕ, ◌-◌, Bool, true, false, ltb, List, length, IsOk, Some, None, Ok, Err, Option, Result, sym, refl, ap, ◌∙◌, subst, arith}
+use Rattle.std.proofs.Common.{◌≡◌, ℕ, ◌-◌, Bool, true, false, ltb, List, length, IsOk, MatchOption, Some, None, Ok, Err, Option, Result, sym, refl, ap, ◌∙◌, subst, arith}
+use Rattle.std.specs.List.{list_any}
 use Rattle.tiny.specs.declared.tokens.Kind.{Kind}
 use Rattle.tiny.specs.declared.tokens.Lexeme.{Lexeme}
 use Rattle.tiny.specs.declared.placed.Placed.{Placed}
@@ -8,9 +9,11 @@ use Rattle.tiny.specs.declared.scanner.Scanner.{Scanner}
 use Rattle.tiny.specs.declared.faults.ScanCause.TheVariants.{TooLong}
 use Rattle.tiny.specs.Scan.{Scanned, scan, scan_from, left_of, Takes}
 use Rattle.tiny.specs.Scan.Scanned.{tokens, refused}
+use Rattle.tiny.specs.contracts.tokens.KindPartialEq.TheImpl.{ghosts}
 use Rattle.parser.specs.declared.parser.Parser.{Parser}
 use Rattle.parser.specs.Rest.{among, scanned, listed, tokens_of}
 use Rattle.parser.specs.Ahead.{ahead, source_of, stands}
+use Rattle.parser.proofs.Alike.{any_kind}
 
 pub opposed : {A : Type 0} → true ≡ false → A
 opposed e = absurd (let z : ◌≡◌ {A = ℕ} 0 1 = cc in omega arith)
@@ -51,6 +54,12 @@ at_first source s h q o p =
 
 pub next_stands : (ks : List Kind) (p : Parser) (t : Placed Lexeme) → p.next ≡ Some t → stands ks (ahead p) ≡ among t.what.kind ks
 next_stands ks p t e = ap (λ o. stands ks (tokens_of (source_of p) o (left_of p.scanner.read (source_of p) p.scanner.at))) e
+
+-- the answer of a test of the next token, which is false where there is none
+pub tested : {Q : Placed Lexeme → Type 0} (ks : List Kind) (p : Parser) (r : Bool) (o : Option (Placed Lexeme)) → p.next ≡ o → MatchOption o (r ≡ false) Q →
+    ((t : Placed Lexeme) → Q t → r ≡ list_any (λ k. ghosts.eq k t.what.kind) ks) → r ≡ stands ks (ahead p)
+tested ks p r None e m q = m ∙ sym (ap (λ o. stands ks (tokens_of (source_of p) o (left_of p.scanner.read (source_of p) p.scanner.at))) e)
+tested ks p r (Some t) e m q = q t m ∙ any_kind t.what.kind ks ∙ sym (next_stands ks p t e)
 
 -- the scanner has read its first token, or that there is none
 pub record First (source : List ℕ) (o : Option (Placed Lexeme)) (e : Scanner) : Type 0 where

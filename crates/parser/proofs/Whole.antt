@@ -1,6 +1,8 @@
 -- A whole source.
 use Rattle.std.proofs.Common.{◌≡◌, ℕ, ◌-◌, ◌<◌, ◌≤◌, true, List, [], ◌∷◌, ◌++◌, length, unwrap_or, Ok, Err, Result, sym, refl, ap, ◌∙◌, subst, arith, length-take}
 use Rattle.std.proofs.lemmas.Bool.{lt-ltb, le-ltb}
+use Rattle.std.proofs.lemmas.Result.{err_from_is_err_and}
+use Rattle.std.specs.Result.{MatchResult, IsErrAnd}
 use Rattle.tiny.specs.declared.placed.Placed.{Placed}
 use Rattle.tiny.specs.declared.faults.ScanCause.{ScanCause}
 use Rattle.tiny.specs.Token.{Token}
@@ -21,7 +23,7 @@ use Rattle.parser.specs.declared.faults.ParseFault.TheVariants.{Scan, Full, Synt
 use Rattle.parser.specs.Rest.{scanned, listed}
 use Rattle.parser.specs.Ahead.{ahead, source_of, place_ahead}
 use Rattle.parser.specs.Refusals.{place_of}
-use Rattle.parser.specs.Reading.{Same, Whole}
+use Rattle.parser.specs.Reading.{Same, Whole, Programs}
 use Rattle.parser.specs.Parsing.{Parsed, Answered, Fitting}
 
 differ : {A : Type 0} {X Y : Type 0} {x : X} {y : Y} → ◌≡◌ {A = Result X Y} (Ok x) (Err y) → A
@@ -65,7 +67,7 @@ unplaced : (source : List ℕ) (ts : List Token) → unwrap_or (place_ahead ts) 
 unplaced source [] = refl
 unplaced source (t ∷ ts) = refl
 
-pub not_parsed : {source : List ℕ} {s : Scanned} {n n' : Table Node} {k : ℕ} {p p' : Parser} {place : ℕ} (what : SyntaxCause) →
+not_parsed : {source : List ℕ} {s : Scanned} {n n' : Table Node} {k : ℕ} {p p' : Parser} {place : ℕ} (what : SyntaxCause) →
     Ok k ≡ counted s → k ≤ capacity n - length (items n) → Begun source s n p → (run (expect block ∷ []) [] (ahead p) ≡ refuse (ahead p')) × Same p p' →
     place ≡ unwrap_or (place_ahead (ahead p')) (length source) → n' ≡ p'.nodes.now → Parsed source s n (Err (Syntax (record { what = what; place = place }))) n'
 not_parsed {source} {s} {n} {n'} {k} {p} {p'} {place} Unexpected e h b (stops, same) place≡ n≡ =
@@ -75,7 +77,7 @@ not_parsed {source} {s} {n} {n'} {k} {p} {p'} {place} Unexpected e h b (stops, s
     (ap (λ x. Err (Syntax (record { what = Unexpected; place = x }))) (place≡ ∙ unplaced source (ahead p'))))
     (ap capacity n≡ ∙ same.room ∙ ap capacity b.nodes)
 
-pub well_parsed : {source : List ℕ} {s : Scanned} {n n' : Table Node} {k : ℕ} {p p' : Parser} {i : ℕ} →
+well_parsed : {source : List ℕ} {s : Scanned} {n n' : Table Node} {k : ℕ} {p p' : Parser} {i : ℕ} →
     Ok k ≡ counted s → k ≤ capacity n - length (items n) → Begun source s n p → Whole p i p' → n' ≡ p'.nodes.now → Parsed source s n (Ok i) n'
 well_parsed {source} {s} {n} {n'} {k} {p} {p'} {i} e h b w n≡ =
     let r = w.read in
@@ -89,3 +91,13 @@ well_parsed {source} {s} {n} {n'} {k} {p} {p'} {i} e h b w n≡ =
       ap items n≡ ∙ r.grown ∙ ap (λ x. items x ++ r.more) b.nodes,
     ))
     (ap capacity n≡ ∙ r.same.room ∙ ap capacity b.nodes)
+
+-- what is told of a program that was read, or not
+pub answered : {source : List ℕ} {s : Scanned} {n n' : Table Node} {k : ℕ} {p : Parser} (p' : Parser) {place : ℕ} {Q : SyntaxCause → ParseFault → Type 0} (r : Result ℕ SyntaxCause) (told : Result ℕ ParseFault) →
+    Ok k ≡ counted s → k ≤ capacity n - length (items n) → Begun source s n p → Programs p r p' →
+    place ≡ unwrap_or (place_ahead (ahead p')) (length source) → n' ≡ p'.nodes.now →
+    MatchResult r (λ i. told ≡ Ok i) (λ f. IsErrAnd told (Q f)) → ((f : SyntaxCause) (x : ParseFault) → Q f x → x ≡ Syntax (record { what = f; place = place })) → Parsed source s n told n'
+answered {source} {s} {n} {n'} p' (Ok i) told e h b w place≡ n≡ o t = subst (λ x. Parsed source s n x n') (sym o) (well_parsed e h b w n≡)
+answered {source} {s} {n} {n'} p' (Err f) told e h b w place≡ n≡ o t =
+    let q = err_from_is_err_and told o in
+    subst (λ x. Parsed source s n x n') (sym (q.1 ∙ ap Err (t f q.0 q.2))) (not_parsed f e h b w place≡ n≡)

@@ -10,6 +10,7 @@ ghost use Rattle.parser.specs.Reading.{Reads, instructing};
 use crate::faults::SyntaxCause;
 use crate::forms::{Bracket, Listed};
 use crate::parser::Parser;
+use nodes::node::Node;
 use tiny::tokens::Kind;
 
 impl Parser<'_, '_, '_> {
@@ -50,9 +51,9 @@ impl Parser<'_, '_, '_> {
         let token = self.expect(&[Kind::DoubleAmpersand])?;
         if self.instructs() {
             let right = self.list(Listed::Statements)?;
-            return Ok(self.join(token, left, right));
+            return Ok(self.add(Node::Join { token, left, right }));
         }
-        Ok(self.under(token, left))
+        Ok(self.add(Node::Under { token, part: left }))
     }
 
     // A type's name, a procedure, or a variable.
@@ -64,15 +65,18 @@ impl Parser<'_, '_, '_> {
         if let Some(token) = self.take(&[Kind::TypeWord]) {
             let part = self.whole_type()?;
             let name = self.expect(&[Kind::Name])?;
-            let named = self.under(name, part);
-            return Ok(self.under(token, named));
+            let named = self.add(Node::Under { token: name, part });
+            return Ok(self.add(Node::Under { token, part: named }));
         }
         if let Some(token) = self.take(&[Kind::ProcWord]) {
             let title = self.expect(&[Kind::Name])?;
             let formals = self.enclosed(Bracket::FormalParens)?;
-            let left = self.under(title, formals);
+            let left = self.add(Node::Under {
+                token: title,
+                part: formals,
+            });
             let right = self.enclosed(Bracket::Braces)?;
-            return Ok(self.join(token, left, right));
+            return Ok(self.add(Node::Join { token, left, right }));
         }
         self.field()
     }
@@ -96,26 +100,34 @@ impl Parser<'_, '_, '_> {
     {
         if let Some(token) = self.take(&[Kind::At, Kind::ReadWord, Kind::WriteWord]) {
             let part = self.assignment()?;
-            return Ok(self.under(token, part));
+            return Ok(self.add(Node::Under { token, part }));
         }
         if let Some(token) = self.take(&[Kind::NlWord]) {
-            return Ok(self.leaf(token));
+            return Ok(self.add(Node::Leaf { token }));
         }
         if let Some(token) = self.take(&[Kind::CallWord]) {
             let name = self.expect(&[Kind::Name])?;
-            let left = self.leaf(name);
+            let left = self.add(Node::Leaf { token: name });
             let right = self.enclosed(Bracket::ActualParens)?;
-            return Ok(self.join(token, left, right));
+            return Ok(self.add(Node::Join { token, left, right }));
         }
         if let Some(token) = self.take(&[Kind::IfWord]) {
             let condition = self.assignment()?;
             let chosen = self.branches()?;
-            return Ok(self.join(token, condition, chosen));
+            return Ok(self.add(Node::Join {
+                token,
+                left: condition,
+                right: chosen,
+            }));
         }
         if let Some(token) = self.take(&[Kind::WhileWord]) {
             let test = self.assignment()?;
             let body = self.enclosed(Bracket::Braces)?;
-            return Ok(self.join(token, test, body));
+            return Ok(self.add(Node::Join {
+                token,
+                left: test,
+                right: body,
+            }));
         }
         self.enclosed(Bracket::Braces)
     }
@@ -128,7 +140,7 @@ impl Parser<'_, '_, '_> {
         let left = self.enclosed(Bracket::Braces)?;
         if let Some(token) = self.take(&[Kind::ElseWord]) {
             let right = self.enclosed(Bracket::Braces)?;
-            return Ok(self.join(token, left, right));
+            return Ok(self.add(Node::Join { token, left, right }));
         }
         Ok(left)
     }

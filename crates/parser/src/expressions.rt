@@ -10,6 +10,7 @@ ghost use Rattle.parser.specs.Reading.{Reads, Continues};
 use crate::faults::SyntaxCause;
 use crate::forms::Tail;
 use crate::parser::Parser;
+use nodes::node::Node;
 use tiny::tokens::Kind;
 
 impl Parser<'_, '_, '_> {
@@ -73,7 +74,7 @@ impl Parser<'_, '_, '_> {
     {
         if let Some(token) = self.take(&[Kind::Minus, Kind::Not]) {
             let part = self.prefix()?;
-            return Ok(self.under(token, part));
+            return Ok(self.add(Node::Under { token, part }));
         }
         self.postfix()
     }
@@ -98,7 +99,7 @@ impl Parser<'_, '_, '_> {
             Kind::TrueWord,
             Kind::FalseWord,
         ]) {
-            return Ok(self.leaf(token));
+            return Ok(self.add(Node::Leaf { token }));
         }
         self.expect(&[Kind::Open])?;
         let inner = self.assignment()?;
@@ -115,7 +116,7 @@ impl Parser<'_, '_, '_> {
         let mut left = first;
         while let Some(token) = self.take(of.operators()) {
             let right = self.operand(of, token.what.kind)?;
-            left = self.join(token, left, right);
+            left = self.add(Node::Join { token, left, right });
             if !of.repeats() {
                 return Ok(left);
             }
@@ -146,7 +147,7 @@ impl Parser<'_, '_, '_> {
     {
         if operator == Kind::Dot {
             let token = self.expect(&[Kind::Name])?;
-            return Ok(self.leaf(token));
+            return Ok(self.add(Node::Leaf { token }));
         }
         let inner = self.assignment()?;
         self.expect(&[Kind::IndexEnd])?;

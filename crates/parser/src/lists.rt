@@ -9,6 +9,7 @@ ghost use Rattle.parser.specs.Reading.{Reads, Continues};
 use crate::faults::SyntaxCause;
 use crate::forms::{Bracket, Listed};
 use crate::parser::Parser;
+use nodes::node::Node;
 
 impl Parser<'_, '_, '_> {
     // An item, or an item and, behind the separator, more of them.
@@ -28,7 +29,7 @@ impl Parser<'_, '_, '_> {
     {
         if let Some(token) = self.take(&[of.separator()]) {
             let right = self.list(of)?;
-            return Ok(self.join(token, left, right));
+            return Ok(self.add(Node::Join { token, left, right }));
         }
         Ok(left)
     }
@@ -52,12 +53,12 @@ impl Parser<'_, '_, '_> {
         ensures { Reads (expect (Sort.enclosed (bracket by)) ∷ []) self.old result self.new }
     {
         let token = self.expect(&[by.opening()])?;
-        if let Some(_) = self.take(&[by.closing()]) {
-            return Ok(self.leaf(token));
+        if self.take(&[by.closing()]).is_some() {
+            return Ok(self.add(Node::Leaf { token }));
         }
         let part = self.contents(by)?;
         self.expect(&[by.closing()])?;
-        Ok(self.under(token, part))
+        Ok(self.add(Node::Under { token, part }))
     }
 
     #[cycle(parts)]

@@ -27,13 +27,9 @@ pub fn parse(source: &[u8], nodes: &mut Table<Node>) -> Result<usize, ParseFault
         next,
         nodes,
     };
-    match parser.program() {
-        Ok(root) => Ok(root),
-        Err(what) => {
-            let place = parser.place().unwrap_or(source.len());
-            Err(ParseFault::Syntax(Placed { what, place }))
-        }
-    }
+    let read = parser.program();
+    let place = parser.place().unwrap_or(source.len());
+    read.map_err(|what| ParseFault::Syntax(Placed { what, place }))
 }
 
 impl Parser<'_, '_, '_> {

@@ -8,6 +8,7 @@ ghost use Rattle.parser.specs.Reading.{Reads, Upto, Continues};
 use crate::faults::SyntaxCause;
 use crate::forms::Listed;
 use crate::parser::Parser;
+use nodes::node::Node;
 use tiny::tokens::Kind;
 
 impl Parser<'_, '_, '_> {
@@ -29,8 +30,8 @@ impl Parser<'_, '_, '_> {
         while let Some(token) = self.take(&[Kind::Index]) {
             let length = self.expect(&[Kind::Literal])?;
             self.expect(&[Kind::IndexEnd])?;
-            let right = self.leaf(length);
-            left = self.join(token, left, right);
+            let right = self.add(Node::Leaf { token: length });
+            left = self.add(Node::Join { token, left, right });
         }
         Ok(left)
     }
@@ -41,13 +42,13 @@ impl Parser<'_, '_, '_> {
         ensures { Upto (expect Sort.type ∷ []) (further Tail.array? ∷ []) self.old result self.new }
     {
         if let Some(token) = self.take(&[Kind::Name, Kind::IntWord, Kind::BoolWord]) {
-            return Ok(self.leaf(token));
+            return Ok(self.add(Node::Leaf { token }));
         }
         let token = self.expect(&[Kind::StructWord])?;
         self.expect(&[Kind::Brace])?;
         let part = self.list(Listed::Fields)?;
         self.expect(&[Kind::BraceEnd])?;
-        Ok(self.under(token, part))
+        Ok(self.add(Node::Under { token, part }))
     }
 
     // A type and a name: a field, or a variable.
@@ -57,7 +58,7 @@ impl Parser<'_, '_, '_> {
     {
         let part = self.whole_type()?;
         let token = self.expect(&[Kind::Name])?;
-        Ok(self.under(token, part))
+        Ok(self.add(Node::Under { token, part }))
     }
 
     // A formal, by value or by reference.
@@ -68,11 +69,11 @@ impl Parser<'_, '_, '_> {
     {
         let part = self.whole_type()?;
         if let Some(token) = self.take(&[Kind::Ampersand]) {
-            let part = self.under(token, part);
+            let part = self.add(Node::Under { token, part });
             let name = self.expect(&[Kind::Name])?;
-            return Ok(self.under(name, part));
+            return Ok(self.add(Node::Under { token: name, part }));
         }
         let token = self.expect(&[Kind::Name])?;
-        Ok(self.under(token, part))
+        Ok(self.add(Node::Under { token, part }))
     }
 }

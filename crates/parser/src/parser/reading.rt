@@ -11,10 +11,8 @@ impl Parser<'_, '_, '_> {
     pub fn stands(&self, kinds: &[Kind]) -> bool
         ensures { result ≡ stands kinds.now (ahead self.now) }
     {
-        match self.next {
-            Some(token) => kinds.contains(&token.what.kind),
-            None => false,
-        }
+        self.next
+            .is_some_and(|token| kinds.contains(&token.what.kind))
     }
 
     // Takes the next token if it is of one of these kinds.

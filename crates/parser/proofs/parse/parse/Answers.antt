@@ -2,7 +2,7 @@ use Rattle.std.proofs.Common.{rules, length, unwrap_or, Err, refl, ap, ◌∙◌
 use Rattle.std.proofs.lemmas.Result.{err_from_is_err_and}
 use Rattle.tiny.specs.Scan.{scan}
 use Rattle.parser.proofs.Scanning.{opened}
-use Rattle.parser.proofs.Whole.{scans_well, count_is, few, not_scanned, too_small, not_parsed, well_parsed}
+use Rattle.parser.proofs.Whole.{scans_well, count_is, few, not_scanned, too_small, answered}
 use Rattle.parser.proofs.parse.parse.Goals as goal
 
 pub returns-in_err-count : goal.returns-in_err-count
@@ -32,23 +32,13 @@ invariant_of-parser c =
     let f = o.first c.unwrap-next.result c.unwrap-next.ensures in
     record { sound = f.sound; room = omega (arith, few c.args.nodes.now, ap length f.all, count_is (scan source) c.in_ok-count.count k) }
 
-pub returns-in-Ok : goal.returns-in-Ok
-returns-in-Ok c =
+pub returns : goal.returns
+returns c =
     let source = c.args.source.now in
     let k = c.in_ok-count.ensures in
     let n = c.new-scanner.ensures in
     let e = c.next.new.self in
     let o = opened source c.new-scanner.result e c.next.result (scans_well (scan source) c.in_ok-count.count k) n.source n.at n.read c.next.ensures.source c.next.ensures.left in
     let f = o.first c.unwrap-next.result c.unwrap-next.ensures in
-    well_parsed k (omega arith) (record { source = f.same; left = f.all; nodes = refl }) c.in-Ok.ensures (search rules)
-
-pub returns-in-Err : goal.returns-in-Err
-returns-in-Err c =
-    let source = c.args.source.now in
-    let k = c.in_ok-count.ensures in
-    let n = c.new-scanner.ensures in
-    let e = c.next.new.self in
-    let o = opened source c.new-scanner.result e c.next.result (scans_well (scan source) c.in_ok-count.count k) n.source n.at n.read c.next.ensures.source c.next.ensures.left in
-    let f = o.first c.unwrap-next.result c.unwrap-next.ensures in
-    not_parsed c.in-Err.what k (omega arith) (record { source = f.same; left = f.all; nodes = refl }) c.in-Err.ensures
-    (c.unwrap_or-place.ensures ∙ ap (λ o. unwrap_or o (length source)) c.place.ensures) (search rules)
+    answered _ c.program-read.result c.map_err.result k (omega arith) (record { source = f.same; left = f.all; nodes = refl }) c.program-read.ensures
+    (c.unwrap_or-place.ensures ∙ ap (λ o. unwrap_or o (length source)) c.place.ensures) (search rules) c.map_err.ensures.cases (λ f x h. search rules)

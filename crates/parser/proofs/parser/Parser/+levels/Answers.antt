@@ -63,7 +63,7 @@ postfix-returns t c = handed_on c.further.result c.further.new.self c.further.en
 
 pub prefix-returns-in-Some : goal.prefix-returns-in-Some
 prefix-returns-in-Some t c =
-    done (put_under c.under.ensures (made_under (call c.in_ok-part.ensures
+    done (put_under c.add.ensures (made_under (call c.in_ok-part.ensures
     (took (whole e5) (capping e5) (λ o. (refl, (refl, tt))) c.in-Some.ensures
     (start (expect e5 ∷ []) _)))))
 
@@ -74,11 +74,11 @@ prefix-returns t c =
 
 pub selector-returns-then-eq : goal.selector-returns-then-eq
 selector-returns-then-eq t c =
-    done (put_leaf c.leaf.ensures (named c.in_ok-token.ensures (select_name _ _ (sym (equal c.args.operator Dot) ∙ sym c.eq.ensures ∙ c.if-eq.true))))
+    done (put_leaf c.add.ensures (named c.in_ok-token.ensures (select_name _ _ (sym (equal c.args.operator Dot) ∙ sym c.eq.ensures ∙ c.if-eq.true))))
 
 pub basic-returns-in-Some : goal.basic-returns-in-Some
 basic-returns-in-Some t c =
-    done (put_leaf c.leaf.ensures (made_leaf (took (whole basic) leafing (λ o. (refl, (refl, (refl, (refl, tt))))) c.in-Some.ensures
+    done (put_leaf c.add.ensures (made_leaf (took (whole basic) leafing (λ o. (refl, (refl, (refl, (refl, tt))))) c.in-Some.ensures
     (start (expect basic ∷ []) _))))
 
 pub further-returns-in_err-right : goal.further-returns-in_err-right
@@ -89,13 +89,13 @@ further-returns-in_err-right t c =
 
 pub further-loop-token-preserved : goal.further-loop-token-preserved
 further-loop-token-preserved t c =
-    turned c.join-left.ensures (repeated c.args.of c.repeats.ensures c.if-not-repeats.false (call_on _ c.in_ok-right.ensures
+    turned c.add-left.ensures (repeated c.args.of c.repeats.ensures c.if-not-repeats.false (call_on _ c.in_ok-right.ensures
     (operated c.args.of c.operators.ensures c.in-Some.ensures (start (further (tail_of c.args.of) ∷ []) _))))
     c.loop-token.invariant
 
 pub further-returns-then-not-repeats : goal.further-returns-then-not-repeats
 further-returns-then-not-repeats t c =
-    λ u h. went (put_join c.join-left.ensures (only_once c.args.of c.repeats.ensures c.if-not-repeats.true (call_on _ c.in_ok-right.ensures
+    λ u h. went (put_join c.add-left.ensures (only_once c.args.of c.repeats.ensures c.if-not-repeats.true (call_on _ c.in_ok-right.ensures
     (operated c.args.of c.operators.ensures c.in-Some.ensures (c.loop-token.invariant.goes _ _ _ _ _ (tailed _ u _ _ h))))))
 
 pub further-returns : goal.further-returns

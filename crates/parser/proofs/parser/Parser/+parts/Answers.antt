@@ -12,7 +12,7 @@ use Rattle.parser.specs.Forms.{listed, bracket}
 use Rattle.parser.specs.Ahead.{ahead}
 use Rattle.parser.proofs.Stand.{start, call, skip, took, passed, named, capped_by, made_leaf, made_under, put_leaf, put_under, put_join, put_title, put_united, done, tailed, went, handed_on}
 use Rattle.parser.proofs.Ways.{fails, lacks, broke, gone, nor, at_once, entered, lefted, neither, none_of}
-use Rattle.parser.proofs.Levels.{only_block, opened, open_list, took_as, lacked_as, separated, bracketed, joining, capping, leafing, handed, instructed, declared, instructed_then, nothing_then, naming_procedure, sectioning, referring}
+use Rattle.parser.proofs.Levels.{only_block, opened, open_list, took_as, lacked_as, one_taken, none_taken, separated, bracketed, joining, capping, leafing, handed, instructed, declared, instructed_then, nothing_then, naming_procedure, sectioning, referring}
 use Rattle.parser.proofs.parser.Parser.+parts.Goals as goal
 
 pub list-returns-in_err-left : goal.list-returns-in_err-left
@@ -20,29 +20,29 @@ list-returns-in_err-left t c =
     broke _ _ _ _ _ _ c.from_residual.ensures.1
     (fails c.in_err-left.ensures (open_list (listed c.args.of) _))
 
-pub enclosed-returns-in-Some : goal.enclosed-returns-in-Some
-enclosed-returns-in-Some t c =
+pub enclosed-returns-then-is_some : goal.enclosed-returns-then-is_some
+enclosed-returns-then-is_some t c =
     let b = bracket c.args.by in
-    done (put_leaf c.leaf.ensures (at_once b (took_as c.closing.ensures c.in-Some.ensures) (bracketed b c.opening.ensures c.in_ok-token.ensures)))
+    done (put_leaf c.add.ensures (at_once b (took_as c.closing.ensures (one_taken _ c.take.ensures (sym c.is_some.ensures ∙ c.if-is_some.true)).1) (bracketed b c.opening.ensures c.in_ok-token.ensures)))
 
 pub enclosed-returns-in_err-part : goal.enclosed-returns-in_err-part
 enclosed-returns-in_err-part t c =
     let b = bracket c.args.by in
     broke _ _ _ _ _ _ c.from_residual-in_err-part.ensures.1
-    (fails c.in_err-part.ensures (entered b (lacked_as c.closing.ensures c.in_default.ensures) (bracketed b c.opening.ensures c.in_ok-token.ensures)))
+    (fails c.in_err-part.ensures (entered b (lacked_as c.closing.ensures (none_taken (c.closing.result ∷ []) _ c.take.ensures (sym c.is_some.ensures ∙ c.if-is_some.false))) (bracketed b c.opening.ensures c.in_ok-token.ensures)))
 
 pub enclosed-returns-in_err-expect : goal.enclosed-returns-in_err-expect
 enclosed-returns-in_err-expect t c =
     let b = bracket c.args.by in
     broke _ _ _ _ _ _ c.from_residual-in_err-expect.ensures.1
-    (lacks (lacked_as c.closing-2.ensures c.in_err-expect.ensures) (made_under (call c.in_ok-part.ensures (entered b (lacked_as c.closing.ensures c.in_default.ensures)
+    (lacks (lacked_as c.closing-2.ensures c.in_err-expect.ensures) (made_under (call c.in_ok-part.ensures (entered b (lacked_as c.closing.ensures (none_taken (c.closing.result ∷ []) _ c.take.ensures (sym c.is_some.ensures ∙ c.if-is_some.false)))
     (bracketed b c.opening.ensures c.in_ok-token.ensures)))))
 
 pub enclosed-returns : goal.enclosed-returns
 enclosed-returns t c =
     let b = bracket c.args.by in
-    done (put_under c.under.ensures (passed (took_as c.closing-2.ensures c.in_ok-expect.ensures) (made_under (call c.in_ok-part.ensures
-    (entered b (lacked_as c.closing.ensures c.in_default.ensures) (bracketed b c.opening.ensures c.in_ok-token.ensures))))))
+    done (put_under c.add-2.ensures (passed (took_as c.closing-2.ensures c.in_ok-expect.ensures) (made_under (call c.in_ok-part.ensures
+    (entered b (lacked_as c.closing.ensures (none_taken (c.closing.result ∷ []) _ c.take.ensures (sym c.is_some.ensures ∙ c.if-is_some.false))) (bracketed b c.opening.ensures c.in_ok-token.ensures))))))
 
 pub branches-returns-in_err-left : goal.branches-returns-in_err-left
 branches-returns-in_err-left t c =
@@ -58,7 +58,7 @@ branches-returns-in_err-right t c =
 
 pub branches-returns-in-Some : goal.branches-returns-in-Some
 branches-returns-in-Some t c =
-    done (put_join c.join.ensures (call c.in_ok-right.ensures
+    done (put_join c.add.ensures (call c.in_ok-right.ensures
     (took (tail else?) (joining (enclosed braces)) (λ o. (refl, tt)) c.in-Some.ensures
     (call c.in_ok-left.ensures (opened (enclosed braces) branches (further else? ∷ []) (λ t. refl) _)))))
 
@@ -78,28 +78,28 @@ sections-returns-in_err-right t c =
 
 pub sections-returns-then-instructs : goal.sections-returns-then-instructs
 sections-returns-then-instructs t c =
-    done (put_united c.join.ensures (call c.in_ok-right.ensures (instructed_then (sym c.instructs.ensures ∙ c.if-instructs.true) (made_under (took (tail section_tail) sectioning (λ o. (refl, tt)) c.in_ok-token.ensures
+    done (put_united c.add.ensures (call c.in_ok-right.ensures (instructed_then (sym c.instructs.ensures ∙ c.if-instructs.true) (made_under (took (tail section_tail) sectioning (λ o. (refl, tt)) c.in_ok-token.ensures
     (call c.in_ok-left.ensures (start (expect (list declarations) ∷ further section_tail ∷ []) _)))))))
 
 pub sections-returns : goal.sections-returns
 sections-returns t c =
-    done (put_under c.under.ensures (nothing_then (sym c.instructs.ensures ∙ c.if-instructs.false) (made_under (took (tail section_tail) sectioning (λ o. (refl, tt)) c.in_ok-token.ensures
+    done (put_under c.add-2.ensures (nothing_then (sym c.instructs.ensures ∙ c.if-instructs.false) (made_under (took (tail section_tail) sectioning (λ o. (refl, tt)) c.in_ok-token.ensures
     (call c.in_ok-left.ensures (start (expect (list declarations) ∷ further section_tail ∷ []) _))))))
 
 pub declaration-returns-in-Some : goal.declaration-returns-in-Some
 declaration-returns-in-Some t c =
-    done (put_under c.under.ensures (made_under (put_under c.under-named.ensures (capped_by c.in_ok-name.ensures (call c.in_ok-part.ensures (took (whole declaration) (λ k o. expect type ∷ token Name undered ∷ make (undered o) ∷ []) (λ o. (refl, tt)) c.in-Some.ensures
+    done (put_under c.add.ensures (made_under (put_under c.add-named.ensures (capped_by c.in_ok-name.ensures (call c.in_ok-part.ensures (took (whole declaration) (λ k o. expect type ∷ token Name undered ∷ make (undered o) ∷ []) (λ o. (refl, tt)) c.in-Some.ensures
     (start (expect declaration ∷ []) _)))))))
 
 pub declaration-returns-in_err-right : goal.declaration-returns-in_err-right
 declaration-returns-in_err-right t c =
     broke _ _ _ _ _ _ c.from_residual-in_err-right.ensures.1
-    (fails c.in_err-right.ensures (put_title c.under-left.ensures (call c.in_ok-formals.ensures (named c.in_ok-title.ensures (took (whole declaration) naming_procedure (λ o. (refl, tt)) c.in-Some-take.ensures
+    (fails c.in_err-right.ensures (put_title c.add-left.ensures (call c.in_ok-formals.ensures (named c.in_ok-title.ensures (took (whole declaration) naming_procedure (λ o. (refl, tt)) c.in-Some-take.ensures
     (skip c.in_default.ensures.0 (start (expect declaration ∷ []) _)))))))
 
 pub declaration-returns-in-Some-take : goal.declaration-returns-in-Some-take
 declaration-returns-in-Some-take t c =
-    done (put_join c.join.ensures (call c.in_ok-right.ensures (put_title c.under-left.ensures (call c.in_ok-formals.ensures (named c.in_ok-title.ensures (took (whole declaration) naming_procedure (λ o. (refl, tt)) c.in-Some-take.ensures
+    done (put_join c.add-in-Some-take.ensures (call c.in_ok-right.ensures (put_title c.add-left.ensures (call c.in_ok-formals.ensures (named c.in_ok-title.ensures (took (whole declaration) naming_procedure (λ o. (refl, tt)) c.in-Some-take.ensures
     (skip c.in_default.ensures.0 (start (expect declaration ∷ []) _))))))))
 
 pub declaration-returns : goal.declaration-returns
@@ -109,12 +109,12 @@ declaration-returns t c =
 
 pub element-returns-in-Some : goal.element-returns-in-Some
 element-returns-in-Some t c =
-    done (put_leaf c.leaf.ensures (made_leaf (took (whole type) (λ k o. make (pushed o) ∷ further array? ∷ []) (λ o. (refl, (refl, (refl, tt)))) c.in-Some.ensures
+    done (put_leaf c.add.ensures (made_leaf (took (whole type) (λ k o. make (pushed o) ∷ further array? ∷ []) (λ o. (refl, (refl, (refl, tt)))) c.in-Some.ensures
     (start (expect type ∷ []) _))))
 
 pub element-returns : goal.element-returns
 element-returns t c =
-    done (put_under c.under.ensures (made_under (passed c.in_ok-expect-2.ensures (call c.in_ok-part.ensures (passed c.in_ok-expect.ensures (took (whole type) (λ k o. token Brace dropped ∷ expect (list fields) ∷ token BraceEnd dropped ∷ make (undered o) ∷ further array? ∷ []) (λ o. (refl, tt)) c.in_ok-token.ensures
+    done (put_under c.add-2.ensures (made_under (passed c.in_ok-expect-2.ensures (call c.in_ok-part.ensures (passed c.in_ok-expect.ensures (took (whole type) (λ k o. token Brace dropped ∷ expect (list fields) ∷ token BraceEnd dropped ∷ make (undered o) ∷ further array? ∷ []) (λ o. (refl, tt)) c.in_ok-token.ensures
     (skip c.in_default.ensures.0 (start (expect type ∷ []) _))))))))
 
 pub field-returns-in_err-part : goal.field-returns-in_err-part
@@ -129,7 +129,7 @@ field-returns-in_err-token t c =
 
 pub field-returns : goal.field-returns
 field-returns t c =
-    done (put_under c.under.ensures (capped_by c.in_ok-token.ensures (call c.in_ok-part.ensures (opened type field (token Name undered ∷ []) (λ t. refl) _))))
+    done (put_under c.add.ensures (capped_by c.in_ok-token.ensures (call c.in_ok-part.ensures (opened type field (token Name undered ∷ []) (λ t. refl) _))))
 
 pub formal-returns-in_err-part : goal.formal-returns-in_err-part
 formal-returns-in_err-part t c =
@@ -139,12 +139,12 @@ formal-returns-in_err-part t c =
 pub formal-returns-in_err-name : goal.formal-returns-in_err-name
 formal-returns-in_err-name t c =
     broke _ _ _ _ _ _ c.from_residual-in_err-name.ensures.1
-    (lacks c.in_err-name.ensures (put_under c.under-part.ensures (made_under (took (tail formal_name) referring (λ o. (refl, tt)) c.in-Some.ensures
+    (lacks c.in_err-name.ensures (put_under c.add-part.ensures (made_under (took (tail formal_name) referring (λ o. (refl, tt)) c.in-Some.ensures
     (call c.in_ok-part.ensures (opened type formal (further formal_name ∷ []) (λ t. refl) _))))))
 
 pub formal-returns-in-Some : goal.formal-returns-in-Some
 formal-returns-in-Some t c =
-    done (put_under c.under.ensures (capped_by c.in_ok-name.ensures (put_under c.under-part.ensures (made_under (took (tail formal_name) referring (λ o. (refl, tt)) c.in-Some.ensures
+    done (put_under c.add.ensures (capped_by c.in_ok-name.ensures (put_under c.add-part.ensures (made_under (took (tail formal_name) referring (λ o. (refl, tt)) c.in-Some.ensures
     (call c.in_ok-part.ensures (opened type formal (further formal_name ∷ []) (λ t. refl) _)))))))
 
 pub formal-returns-in_err-token : goal.formal-returns-in_err-token
@@ -154,32 +154,32 @@ formal-returns-in_err-token t c =
 
 pub formal-returns : goal.formal-returns
 formal-returns t c =
-    done (put_under c.under-2.ensures (made_under (took (tail formal_name) (λ k o. make (undered o) ∷ []) (λ o. (refl, tt)) c.in_ok-token.ensures
+    done (put_under c.add-2.ensures (made_under (took (tail formal_name) (λ k o. make (undered o) ∷ []) (λ o. (refl, tt)) c.in_ok-token.ensures
     (skip c.in_default.ensures.0 (call c.in_ok-part.ensures (opened type formal (further formal_name ∷ []) (λ t. refl) _))))))
 
 pub action-returns-in-Some : goal.action-returns-in-Some
 action-returns-in-Some t c =
-    done (put_under c.under.ensures (made_under (call c.in_ok-part.ensures (took (whole statement) (capping e0) (λ o. (refl, (refl, (refl, tt)))) c.in-Some.ensures
+    done (put_under c.add.ensures (made_under (call c.in_ok-part.ensures (took (whole statement) (capping e0) (λ o. (refl, (refl, (refl, tt)))) c.in-Some.ensures
     (start (expect statement ∷ []) _)))))
 
 pub action-returns-in-Some-take : goal.action-returns-in-Some-take
 action-returns-in-Some-take t c =
-    done (put_leaf c.leaf.ensures (made_leaf (took (whole statement) leafing (λ o. (refl, tt)) c.in-Some-take.ensures
+    done (put_leaf c.add-in-Some-take.ensures (made_leaf (took (whole statement) leafing (λ o. (refl, tt)) c.in-Some-take.ensures
     (skip c.in_default.ensures.0 (start (expect statement ∷ []) _)))))
 
 pub action-returns-in-Some-take-2 : goal.action-returns-in-Some-take-2
 action-returns-in-Some-take-2 t c =
-    done (put_join c.join.ensures (call c.in_ok-right.ensures (put_leaf c.leaf-left.ensures (named c.in_ok-name.ensures (took (whole statement) (λ k o. token Name pushed ∷ expect (enclosed actual_parens) ∷ make (joined o) ∷ []) (λ o. (refl, tt)) c.in-Some-take-2.ensures
+    done (put_join c.add-in-Some-take-2.ensures (call c.in_ok-right.ensures (put_leaf c.add-left.ensures (named c.in_ok-name.ensures (took (whole statement) (λ k o. token Name pushed ∷ expect (enclosed actual_parens) ∷ make (joined o) ∷ []) (λ o. (refl, tt)) c.in-Some-take-2.ensures
     (skip c.in_default-take.ensures.0 (skip c.in_default.ensures.0 (start (expect statement ∷ []) _))))))))
 
 pub action-returns-in-Some-take-3 : goal.action-returns-in-Some-take-3
 action-returns-in-Some-take-3 t c =
-    done (put_join c.join-in-Some-take-3.ensures (call c.in_ok-chosen.ensures (call c.in_ok-condition.ensures (took (whole statement) (λ k o. expect e0 ∷ expect branches ∷ make (joined o) ∷ []) (λ o. (refl, tt)) c.in-Some-take-3.ensures
+    done (put_join c.add-in-Some-take-3.ensures (call c.in_ok-chosen.ensures (call c.in_ok-condition.ensures (took (whole statement) (λ k o. expect e0 ∷ expect branches ∷ make (joined o) ∷ []) (λ o. (refl, tt)) c.in-Some-take-3.ensures
     (skip c.in_default-take-2.ensures.0 (skip c.in_default-take.ensures.0 (skip c.in_default.ensures.0 (start (expect statement ∷ []) _))))))))
 
 pub action-returns-in-Some-take-4 : goal.action-returns-in-Some-take-4
 action-returns-in-Some-take-4 t c =
-    done (put_join c.join-in-Some-take-4.ensures (call c.in_ok-body.ensures (call c.in_ok-test.ensures (took (whole statement) (λ k o. expect e0 ∷ expect (enclosed braces) ∷ make (joined o) ∷ []) (λ o. (refl, tt)) c.in-Some-take-4.ensures
+    done (put_join c.add-in-Some-take-4.ensures (call c.in_ok-body.ensures (call c.in_ok-test.ensures (took (whole statement) (λ k o. expect e0 ∷ expect (enclosed braces) ∷ make (joined o) ∷ []) (λ o. (refl, tt)) c.in-Some-take-4.ensures
     (skip c.in_default-take-3.ensures.0 (skip c.in_default-take-2.ensures.0 (skip c.in_default-take.ensures.0 (skip c.in_default.ensures.0 (start (expect statement ∷ []) _)))))))))
 
 pub action-returns : goal.action-returns
@@ -203,7 +203,7 @@ list-returns t c = handed_on c.more.result c.more.new.self c.more.ensures (call 
 pub more-returns-in-Some : goal.more-returns-in-Some
 more-returns-in-Some t c =
     let l = listed c.args.of in
-    λ u h. went (put_join c.join.ensures (call c.in_ok-right.ensures (separated l c.separator.ensures c.in-Some.ensures (tailed _ u _ _ h))))
+    λ u h. went (put_join c.add.ensures (call c.in_ok-right.ensures (separated l c.separator.ensures c.in-Some.ensures (tailed _ u _ _ h))))
 
 pub statement-returns-then-stands : goal.statement-returns-then-stands
 statement-returns-then-stands t c =

@@ -23,7 +23,7 @@ returns-in_err-expect c =
 
 pub loop-token-preserved : goal.loop-token-preserved
 loop-token-preserved c =
-    turned c.join-left.ensures (put_leaf c.leaf-right.ensures (passed c.in_ok-expect.ensures (named c.in_ok-length.ensures (took (tail array?) measuring (λ o. (refl, tt)) c.in-Some.ensures
+    turned c.add-left.ensures (put_leaf c.add-right.ensures (passed c.in_ok-expect.ensures (named c.in_ok-length.ensures (took (tail array?) measuring (λ o. (refl, tt)) c.in-Some.ensures
     (start (further array? ∷ []) _)))))
     c.loop-token.invariant
 
