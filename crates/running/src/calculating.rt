@@ -1,40 +1,28 @@
 // Instructions that change the operands and nothing else.
 #![tactic(auto, using(crate::proofs::Settling::settling))]
 
-ghost use Rattle.std.specs.Prelude.{◌<◌, ℤ, IfOk};
+ghost use Rattle.std.specs.Prelude.{ℤ};
 ghost use Rattle.machine.specs.declared.instruction.Instruction.TheVariants.{Lit, Var, Off, Ld, Index, Dup, Pop};
 ghost use Rattle.machine.specs.Ints.{Answer};
-ghost use Rattle.machine.specs.Machine.{effect, made};
+ghost use Rattle.machine.specs.Machine.{effect};
 ghost use Rattle.running.specs.Calculations.{Follows, FollowsOne, combined, turned, element};
 ghost use Rattle.running.specs.Running.{Carried};
 ghost use Rattle.running.specs.Settling.{Settles};
 
+use crate::address::Address;
 use crate::flow::Flow;
 use crate::run::Run;
 use machine::fault::Fault;
 use machine::host::Host;
-use machine::instruction::MAX_OPERAND;
-
-// A number as an address.
-fn address(value: i64) -> Result<u32, Fault>
-    ensures settles { Settles (made value) result }
-    ensures range { IfOk result (λ address. address < 2147483648) }
-{
-    match u32::try_from(value) {
-        Ok(address) if address <= MAX_OPERAND => Ok(address),
-        _ => Err(Fault::Address),
-    }
-}
 
 // The address of element `index` of `count` that take `size` cells each.
-fn element(count: u32, size: u32, start: i32, index: i32) -> Result<u32, Fault>
-    ensures settles { Settles (element count size start index) result }
-    ensures range { IfOk result (λ address. address < 2147483648) }
+fn element(count: u32, size: u32, start: i32, index: i32) -> Result<Address, Fault>
+    ensures { Settles (element count size start index) result }
 {
     if index < 0 || index as u32 >= count {
         return Err(Fault::Bounds);
     }
-    address(i64::from(start) + i64::from(index) * i64::from(size))
+    Address::try_from(i64::from(start) + i64::from(index) * i64::from(size))
 }
 
 impl<H: Host> Run<'_, H> {
@@ -51,7 +39,7 @@ impl<H: Host> Run<'_, H> {
         ensures { Carried H.Host (effect (Var level at)) self.old result self.new }
     {
         self.registers.room()?;
-        let base = self.registers.base(level);
+        let base = self.registers.base(level).number();
         let address = i32::try_from(u64::from(base) + u64::from(at)).map_err(|_| Fault::Address)?;
         self.registers.push(address)?;
         Ok(Flow::Next)
@@ -62,8 +50,8 @@ impl<H: Host> Run<'_, H> {
         ensures { Carried H.Host (effect (Off count)) self.old result self.new }
     {
         let start = self.registers.pop()?;
-        let value = address(i64::from(start) + i64::from(count))?;
-        self.registers.push(value as i32)?;
+        let address = Address::try_from(i64::from(start) + i64::from(count))?;
+        self.registers.push(i32::from(address))?;
         Ok(Flow::Next)
     }
 
@@ -84,8 +72,8 @@ impl<H: Host> Run<'_, H> {
     {
         let index = self.registers.pop()?;
         let start = self.registers.pop()?;
-        let value = element(count, size, start, index)?;
-        self.registers.push(value as i32)?;
+        let address = element(count, size, start, index)?;
+        self.registers.push(i32::from(address))?;
         Ok(Flow::Next)
     }
 

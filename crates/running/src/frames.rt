@@ -1,12 +1,13 @@
 // Instructions that take, enter and leave frames.
 #![tactic(auto, using(crate::proofs::Settling::settling))]
 
-ghost use Rattle.std.specs.Prelude.{◌<◌, IfOk};
+ghost use Rattle.std.specs.Prelude.{◌<◌};
 ghost use Rattle.machine.specs.declared.instruction.Instruction.TheVariants.{Frame, Enter, Leave};
 ghost use Rattle.machine.specs.Machine.{effect, link};
 ghost use Rattle.running.specs.Running.{Carried};
 ghost use Rattle.running.specs.Settling.{Settles};
 
+use crate::address::Address;
 use crate::flow::Flow;
 use crate::memory::clear;
 use crate::run::Run;
@@ -14,11 +15,11 @@ use machine::fault::Fault;
 use machine::host::Host;
 
 // What a frame's link holds.
-fn link(cell: i32) -> Result<u32, Fault>
-    ensures settles { Settles (link cell) result }
-    ensures address { IfOk result (λ link. link < 2147483648) }
+fn link(cell: i32) -> Result<Address, Fault>
+    ensures { Settles (link cell) result }
 {
-    u32::try_from(cell).map_err(|_| Fault::Link)
+    let number = u32::try_from(cell).map_err(|_| Fault::Link)?;
+    Ok(Address::new(number))
 }
 
 impl<H: Host> Run<'_, H> {
@@ -45,8 +46,8 @@ impl<H: Host> Run<'_, H> {
         let start = self.registers.pop()?;
         let at = self.place(i64::from(start), 2)?;
         self.cells[at] = (self.registers.next + 1) as i32;
-        self.cells[at + 1] = self.registers.base(level) as i32;
-        self.registers.set_base(level, at as u32);
+        self.cells[at + 1] = i32::from(self.registers.base(level));
+        self.registers.set_base(level, Address::new(at as u32));
         Ok(Flow::To(to))
     }
 
@@ -54,7 +55,7 @@ impl<H: Host> Run<'_, H> {
     pub(crate) fn leave(&mut self, level: u8) -> Result<Flow, Fault>
         ensures { Carried H.Host (effect (Leave level)) self.old result self.new }
     {
-        let start = self.registers.base(level);
+        let start = self.registers.base(level).number();
         let at = start as usize;
         if at + 2 > self.cells.len() {
             return Err(Fault::Address);
@@ -63,6 +64,6 @@ impl<H: Host> Run<'_, H> {
         let base = link(self.cells[at + 1])?;
         self.registers.top = start;
         self.registers.set_base(level, base);
-        Ok(Flow::To(next))
+        Ok(Flow::To(next.number()))
     }
 }

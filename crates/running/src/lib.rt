@@ -1,6 +1,7 @@
 // Runs of the machine: instructions carried out one after the other over any shelf and any host.
 #![tactic(auto)]
 
+pub mod address;
 pub mod advance;
 pub mod bases;
 mod calculating;

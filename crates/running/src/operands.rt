@@ -57,9 +57,7 @@ impl Operands {
     pub(crate) fn push(&mut self, value: i32) -> Result<(), Fault>
         ensures { Pushed self.old value result self.new }
     {
-        if self.depth >= MAX_OPERANDS {
-            return Err(Fault::Operands);
-        }
+        self.room()?;
         self.items[self.depth] = value;
         self.depth += 1;
         Ok(())

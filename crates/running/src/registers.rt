@@ -1,10 +1,11 @@
 // What a run works with besides memory and host.
-ghost use Rattle.std.specs.Prelude.{◌≡◌, ◌<◌, List, ℤ, slice_index, slice_set};
+ghost use Rattle.std.specs.Prelude.{◌≡◌, List, ℤ, slice_index, slice_set};
 ghost use Rattle.machine.specs.Host.{Host};
 ghost use Rattle.machine.specs.Machine.{opened};
 ghost use Rattle.running.specs.Running.{machine_of};
 ghost use Rattle.running.specs.Stacks.{Roomy, Pushed, Popped};
 
+use crate::address::Address;
 use crate::bases::Bases;
 use crate::operands::Operands;
 use machine::fault::Fault;
@@ -56,16 +57,14 @@ impl Registers {
     }
 
     // The base of a level's frame, 0 where there is no such level.
-    pub(crate) fn base(&self, level: u8) -> u32
-        ensures value { result ≡ slice_index self.now.bases level }
-        ensures address { result < 2147483648 }
+    pub(crate) fn base(&self, level: u8) -> Address
+        ensures { result ≡ slice_index self.now.bases level }
     {
         self.bases.get(level)
     }
 
     // Puts another base in the place of a level's, if there is such a level.
-    pub(crate) fn set_base(&mut self, level: u8, base: u32)
-        requires { base < 2147483648 }
+    pub(crate) fn set_base(&mut self, level: u8, base: Address)
         ensures { self.new ≡ record self.old { bases = slice_set self.old.bases level base } }
     {
         self.bases.set(level, base);

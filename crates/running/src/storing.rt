@@ -52,7 +52,7 @@ impl<H: Host> Run<'_, H> {
         ensures { Carried H.Host (effect (Zero level start size)) self.old result self.new }
     {
         let base = self.registers.base(level);
-        let at = self.place(i64::from(base) + i64::from(start), size)?;
+        let at = self.place(i64::from(base.number()) + i64::from(start), size)?;
         clear(self.cells, at, size);
         Ok(Flow::Next)
     }
