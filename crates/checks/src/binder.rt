@@ -5,7 +5,6 @@ ghost use Rattle.tiny.specs.Tree.{Name, Fields, Formals, Statements, Declaration
 ghost use Rattle.meaning.specs.Stages.{Open, undeclared, twice, names, names_all, names_type, names_fields, names_formals, open_formals, names_statements, names_declarations, open_declarations, names_block};
 ghost use Rattle.syntax.specs.Shape.{Tree, size};
 ghost use Rattle.syntax.specs.View;
-ghost use Rattle.nodes.specs.Shows.{Shows};
 ghost use Rattle.nodes.specs.Subtrees.{Shown};
 ghost use Rattle.tables.specs.Items.{capacity};
 ghost use Rattle.checks.specs.Branches.{names_branches};
@@ -15,7 +14,6 @@ ghost use Rattle.checks.specs.Declares.{name_break, Inner, Declares, NamesAre, F
 use crate::faults::{NameCause, NameFault};
 use crate::names::{NameRecord, Names};
 use crate::scope::{Enclosed, Scope};
-use nodes::node::Node;
 use nodes::subtree::{Shape, Subtree};
 use tables::table::Table;
 use tiny::placed::Placed;
@@ -284,17 +282,15 @@ impl Names<'_, '_, '_> {
 }
 
 // The first name that is not declared or that its scope has already, in the order of the source, or
-// none: `root` is the outermost block of a tree in the table of nodes, as the parser leaves it, and
-// the table of names has a record for each of its nodes.
+// none. The tree is that of the outermost block, as the parser leaves it, and the table of names has
+// a record for each of its nodes.
 pub fn check_names(
     source: &[u8],
-    nodes: &[Node],
+    tree: Subtree<'_>,
     table: &mut Table<NameRecord>,
-    root: usize,
 ) -> Result<(), NameFault>
-    requires { FitsIn source.now nodes.now root 0 (capacity table.old) }
-    ensures { (t : Tree) → Shows source.now nodes.now root t → Tells name_break result (names_block (View.block t) []) }
+    requires { FitsIn source.now tree 0 (capacity table.old) }
+    ensures { (t : Tree) → Shown source.now tree.entry t → Tells name_break result (names_block (View.block t) []) }
 {
-    let tree = Subtree::new(nodes, root);
     Names { source, table }.block(&mut Scope::on(0), tree)
 }

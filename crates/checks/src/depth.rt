@@ -3,13 +3,11 @@
 ghost use Rattle.std.specs.Prelude.{◌≡◌, ℕ, ◌+◌, if◌then◌else◌, nat_lt};
 ghost use Rattle.tiny.specs.Tree.{Fields, Formals, Statements, DeclarationTrees};
 ghost use Rattle.meaning.specs.Stages.{break, deeper, deep, deep_type, deep_fields, deep_formals, deep_all, deep_statements, deep_declarations, deep_block};
-ghost use Rattle.nodes.specs.Rooted.{Rooted};
 ghost use Rattle.syntax.specs.View;
 ghost use Rattle.checks.specs.Breaks.{Tells, depth_break};
 ghost use Rattle.checks.specs.Depth.{Counts, DepthIs, DeepIs, deep_branches};
 
 use crate::faults::{DepthCause, DepthFault};
-use nodes::node::Node;
 use nodes::subtree::{Shape, Subtree};
 use tiny::placed::Placed;
 use tiny::tokens::{Kind, Token};
@@ -272,15 +270,14 @@ impl Depth {
     }
 }
 
-// The first node that is too deep, in the order of the source, or none: `root` is the outermost
-// block of a tree in the table, as the parser leaves it.
-pub fn check_depth(nodes: &[Node], root: usize) -> Result<(), DepthFault>
-    requires { Rooted nodes.now root }
-    ensures { DepthIs nodes.now root result (λ t. deep_block (View.block t) 1 0) }
+// The first node that is too deep, in the order of the source, or none. The tree is that of the
+// outermost block, as the parser leaves it.
+pub fn check_depth(tree: Subtree<'_>) -> Result<(), DepthFault>
+    ensures { DepthIs tree.entry result (λ t. deep_block (View.block t) 1 0) }
 {
     let outermost = Depth {
         nodes: 1,
         procedures: 0,
     };
-    outermost.block(Subtree::new(nodes, root))
+    outermost.block(tree)
 }
