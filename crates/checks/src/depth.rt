@@ -50,7 +50,7 @@ impl Depth {
     fn node(self, token: Token) -> Result<(), DepthFault>
         ensures { (d l : ℕ) → Counts self d l → Tells depth_break result (deeper 96 d token.place) }
     {
-        if self.nodes as usize > MOST_DEEP {
+        if usize::from(self.nodes) > MOST_DEEP {
             return Err(Placed {
                 what: DepthCause::Node,
                 place: token.place,
@@ -64,7 +64,7 @@ impl Depth {
         ensures { (d l : ℕ) → Counts self d l → Tells depth_break result (if nat_lt 96 d then break 7 name.place else deeper 8 (l + 1) name.place) }
     {
         self.node(name)?;
-        if self.procedures as usize >= MOST_NESTED {
+        if usize::from(self.procedures) >= MOST_NESTED {
             return Err(Placed {
                 what: DepthCause::Procedure,
                 place: name.place,
