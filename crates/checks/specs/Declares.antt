@@ -85,6 +85,11 @@ pub record Keeps (k : ℕ) (a b : Names) : Type 0 where
   pub within : k ≤ length (listed b)
   pub room : most b ≡ most a
 
+-- after what closes each scope that it opens: the scope record is as it was, and without a break so are the names that were open
+pub record Closes {X F : Type 0} (r : Result X F) (a b : Names) (s u : Scope) : Type 0 where
+  pub scope : u ≡ s
+  pub keeps : WhenOk r (Keeps s.top a b)
+
 -- the innermost scope has more names
 pub record Grown (a b : Names) (s u : Scope) : Type 0 where
   pub keeps : Keeps s.top a b

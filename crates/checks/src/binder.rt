@@ -9,7 +9,7 @@ ghost use Rattle.nodes.specs.Subtrees.{Shown};
 ghost use Rattle.tables.specs.Items.{capacity};
 ghost use Rattle.checks.specs.Branches.{names_branches};
 ghost use Rattle.checks.specs.Breaks.{Tells};
-ghost use Rattle.checks.specs.Declares.{name_break, Inner, Declares, NamesAre, FitsIn, Fits, FitsBoth, FitsOne, Keeps, Named, Fielded, Opened, Proceeded, WhenOk, names_procedure, new_names, inside, behind};
+ghost use Rattle.checks.specs.Declares.{name_break, Inner, Declares, NamesAre, FitsIn, Fits, FitsBoth, FitsOne, Keeps, Named, Fielded, Opened, Proceeded, Closes, WhenOk, names_procedure, new_names, inside, behind};
 
 use crate::faults::{NameCause, NameFault};
 use crate::names::{NameRecord, Names};
@@ -213,8 +213,7 @@ impl Names<'_, '_, '_> {
     fn statements(&mut self, scope: &mut Scope, tree: Subtree<'_>) -> Result<(), NameFault>
         requires { Fits self.old scope.old.top tree behind }
         ensures names { NamesAre self.old scope.old tree.entry result (λ t Δ. names_statements (View.statements t Statements.no_statement) Δ) }
-        ensures scope { scope.new ≡ scope.old }
-        ensures keeps { WhenOk result (Keeps scope.old.top self.old self.new) }
+        ensures closes { Closes result self.old self.new scope.old scope.new }
     {
         match tree.shape() {
             Shape::Leaf { .. } => Ok(()),
@@ -250,8 +249,7 @@ impl Names<'_, '_, '_> {
     fn branches(&mut self, scope: &mut Scope, tree: Subtree<'_>) -> Result<(), NameFault>
         requires { Fits self.old scope.old.top tree inside }
         ensures names { NamesAre self.old scope.old tree.entry result (λ t Δ. names_branches t Δ) }
-        ensures scope { scope.new ≡ scope.old }
-        ensures keeps { WhenOk result (Keeps scope.old.top self.old self.new) }
+        ensures closes { Closes result self.old self.new scope.old scope.new }
     {
         match tree.shape() {
             Shape::Join { left, right, .. } => {
@@ -267,8 +265,7 @@ impl Names<'_, '_, '_> {
     fn block(&mut self, scope: &mut Scope, tree: Subtree<'_>) -> Result<(), NameFault>
         requires { Fits self.old scope.old.top tree inside }
         ensures names { NamesAre self.old scope.old tree.entry result (λ t Δ. names_block (View.block t) Δ) }
-        ensures scope { scope.new ≡ scope.old }
-        ensures keeps { WhenOk result (Keeps scope.old.top self.old self.new) }
+        ensures closes { Closes result self.old self.new scope.old scope.new }
     {
         match tree.shape() {
             Shape::Under { part, .. } => {
