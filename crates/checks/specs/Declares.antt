@@ -7,9 +7,7 @@ use Rattle.tiny.specs.Tree as Tree
 use Rattle.syntax.specs.Shape.{size}
 use Rattle.syntax.specs.Shape as Shape
 use Rattle.syntax.specs.View as View
-use Rattle.nodes.specs.declared.node.Node.{Node}
 use Rattle.nodes.specs.declared.subtree.Subtree.{Subtree}
-use Rattle.nodes.specs.Shows.{Shows}
 use Rattle.nodes.specs.Subtrees.{Shown}
 use Rattle.tables.specs.Items.{items, capacity, item_at}
 use Rattle.tiny.specs.declared.tokens.Kind.TheVariants.{Name as NameKind, TypeWord, ProcWord, Semicolon, DoubleAmpersand}
@@ -51,10 +49,10 @@ NamesAre n s e r f = (source : List ℕ) (t : Shape.Tree) (Δ : Open) → Shown 
 pub record WhenOk {X F : Type 0} (r : Result X F) (P : Type 0) : Type 0 where
   pub then : (x : X) → r ≡ Ok x → P
 
--- the record shows a tree for whose names there is room: so many are in use
-pub record FitsIn (source : List ℕ) (ns : List Node) (i used room : ℕ) : Type 0 where
+-- the subtree shows a tree of the source for whose names there is room: so many are in use
+pub record FitsIn (source : List ℕ) (s : Subtree) (used room : ℕ) : Type 0 where
   pub tree : Shape.Tree
-  pub shown : Shows source ns i tree
+  pub shown : Shown source s tree
   pub fits : used + size tree ≤ room
 
 -- the first `used` names are in the table, and on top of them there is room for those of a tree, which are `few` at most
@@ -86,6 +84,11 @@ pub record Keeps (k : ℕ) (a b : Names) : Type 0 where
   pub same : (i : ℕ) → i < k → item_at (listed b) i ≡ item_at (listed a) i
   pub within : k ≤ length (listed b)
   pub room : most b ≡ most a
+
+-- after what closes each scope that it opens: the scope record is as it was, and without a break so are the names that were open
+pub record Closes {X F : Type 0} (r : Result X F) (a b : Names) (s u : Scope) : Type 0 where
+  pub scope : u ≡ s
+  pub keeps : WhenOk r (Keeps s.top a b)
 
 -- the innermost scope has more names
 pub record Grown (a b : Names) (s u : Scope) : Type 0 where

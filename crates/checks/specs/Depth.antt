@@ -4,9 +4,7 @@ use Rattle.tiny.specs.declared.placed.Placed.{Placed}
 use Rattle.syntax.specs.Shape.{Tree}
 use Rattle.syntax.specs.Shape.Tree.{leaf, under, join}
 use Rattle.syntax.specs.View.{block}
-use Rattle.nodes.specs.declared.node.Node.{Node}
 use Rattle.nodes.specs.declared.subtree.Subtree.{Subtree}
-use Rattle.nodes.specs.Shows.{Shows}
 use Rattle.nodes.specs.Subtrees.{Shown}
 use Rattle.meaning.specs.Stages.{Break, deep_block}
 use Rattle.checks.specs.declared.depth.Depth.{Depth}
@@ -24,9 +22,9 @@ pub record Counts (c : Depth) (d l : ℕ) : Type 0 where
   pub nodes : c.nodes ≡ min d 255
   pub procedures : c.procedures ≡ min l 255
 
--- the answer is the first of these breaks, whatever tree the record shows
-abbrev pub DepthIs : {X : Type 0} → List Node → ℕ → Result X (Placed DepthCause) → (Tree → List Break) → Type 0
-DepthIs ns i r f = (source : List ℕ) (t : Tree) → Shows source ns i t → Tells depth_break r (f t)
+-- the answer is the first of these breaks, whatever tree the subtree shows
+abbrev pub DepthIs : {X : Type 0} → Subtree → Result X (Placed DepthCause) → (Tree → List Break) → Type 0
+DepthIs s r f = (source : List ℕ) (t : Tree) → Shown source s t → Tells depth_break r (f t)
 
 -- the same of a subtree that stands so deep
 abbrev pub DeepIs : {X : Type 0} → Subtree → Depth → Result X (Placed DepthCause) → (Tree → ℕ → ℕ → List Break) → Type 0

@@ -5,17 +5,15 @@ ghost use Rattle.tiny.specs.Tree.{Name, Fields, Formals, Statements, Declaration
 ghost use Rattle.meaning.specs.Stages.{Open, undeclared, twice, names, names_all, names_type, names_fields, names_formals, open_formals, names_statements, names_declarations, open_declarations, names_block};
 ghost use Rattle.syntax.specs.Shape.{Tree, size};
 ghost use Rattle.syntax.specs.View;
-ghost use Rattle.nodes.specs.Shows.{Shows};
 ghost use Rattle.nodes.specs.Subtrees.{Shown};
 ghost use Rattle.tables.specs.Items.{capacity};
 ghost use Rattle.checks.specs.Branches.{names_branches};
 ghost use Rattle.checks.specs.Breaks.{Tells};
-ghost use Rattle.checks.specs.Declares.{name_break, Inner, Declares, NamesAre, FitsIn, Fits, FitsBoth, FitsOne, Keeps, Named, Fielded, Opened, Proceeded, WhenOk, names_procedure, new_names, inside, behind};
+ghost use Rattle.checks.specs.Declares.{name_break, Inner, Declares, NamesAre, FitsIn, Fits, FitsBoth, FitsOne, Keeps, Named, Fielded, Opened, Proceeded, Closes, WhenOk, names_procedure, new_names, inside, behind};
 
 use crate::faults::{NameCause, NameFault};
 use crate::names::{NameRecord, Names};
 use crate::scope::{Enclosed, Scope};
-use nodes::node::Node;
 use nodes::subtree::{Shape, Subtree};
 use tables::table::Table;
 use tiny::placed::Placed;
@@ -215,8 +213,7 @@ impl Names<'_, '_, '_> {
     fn statements(&mut self, scope: &mut Scope, tree: Subtree<'_>) -> Result<(), NameFault>
         requires { Fits self.old scope.old.top tree behind }
         ensures names { NamesAre self.old scope.old tree.entry result (λ t Δ. names_statements (View.statements t Statements.no_statement) Δ) }
-        ensures scope { scope.new ≡ scope.old }
-        ensures keeps { WhenOk result (Keeps scope.old.top self.old self.new) }
+        ensures closes { Closes result self.old self.new scope.old scope.new }
     {
         match tree.shape() {
             Shape::Leaf { .. } => Ok(()),
@@ -252,8 +249,7 @@ impl Names<'_, '_, '_> {
     fn branches(&mut self, scope: &mut Scope, tree: Subtree<'_>) -> Result<(), NameFault>
         requires { Fits self.old scope.old.top tree inside }
         ensures names { NamesAre self.old scope.old tree.entry result (λ t Δ. names_branches t Δ) }
-        ensures scope { scope.new ≡ scope.old }
-        ensures keeps { WhenOk result (Keeps scope.old.top self.old self.new) }
+        ensures closes { Closes result self.old self.new scope.old scope.new }
     {
         match tree.shape() {
             Shape::Join { left, right, .. } => {
@@ -269,8 +265,7 @@ impl Names<'_, '_, '_> {
     fn block(&mut self, scope: &mut Scope, tree: Subtree<'_>) -> Result<(), NameFault>
         requires { Fits self.old scope.old.top tree inside }
         ensures names { NamesAre self.old scope.old tree.entry result (λ t Δ. names_block (View.block t) Δ) }
-        ensures scope { scope.new ≡ scope.old }
-        ensures keeps { WhenOk result (Keeps scope.old.top self.old self.new) }
+        ensures closes { Closes result self.old self.new scope.old scope.new }
     {
         match tree.shape() {
             Shape::Under { part, .. } => {
@@ -284,17 +279,15 @@ impl Names<'_, '_, '_> {
 }
 
 // The first name that is not declared or that its scope has already, in the order of the source, or
-// none: `root` is the outermost block of a tree in the table of nodes, as the parser leaves it, and
-// the table of names has a record for each of its nodes.
+// none. The tree is that of the outermost block, as the parser leaves it, and the table of names has
+// a record for each of its nodes.
 pub fn check_names(
     source: &[u8],
-    nodes: &[Node],
+    tree: Subtree<'_>,
     table: &mut Table<NameRecord>,
-    root: usize,
 ) -> Result<(), NameFault>
-    requires { FitsIn source.now nodes.now root 0 (capacity table.old) }
-    ensures { (t : Tree) → Shows source.now nodes.now root t → Tells name_break result (names_block (View.block t) []) }
+    requires { FitsIn source.now tree 0 (capacity table.old) }
+    ensures { (t : Tree) → Shown source.now tree.entry t → Tells name_break result (names_block (View.block t) []) }
 {
-    let tree = Subtree::new(nodes, root);
     Names { source, table }.block(&mut Scope::on(0), tree)
 }

@@ -4,7 +4,7 @@ ghost use Rattle.meaning.specs.Stages.{deep_block, names_block};
 ghost use Rattle.syntax.specs.Shape.{Tree};
 ghost use Rattle.syntax.specs.View;
 ghost use Rattle.tables.specs.Items.{capacity};
-ghost use Rattle.nodes.specs.Shows.{Shows};
+ghost use Rattle.nodes.specs.Subtrees.{Shown};
 ghost use Rattle.checks.specs.Breaks.{Tells};
 ghost use Rattle.checks.specs.Checked.{check_break};
 ghost use Rattle.checks.specs.Declares.{FitsIn};
@@ -13,22 +13,20 @@ use crate::binder::check_names;
 use crate::depth::check_depth;
 use crate::faults::CheckFault;
 use crate::names::NameRecord;
-use nodes::node::Node;
+use nodes::subtree::Subtree;
 use tables::table::Table;
 
-// The first break of depth, or else the first of names, or none: `root` is the outermost block of a
-// tree in the table of nodes, as the parser leaves it, and the table of names has a record for each
-// of its nodes.
+// The first break of depth, or else the first of names, or none. The tree is that of the outermost
+// block, as the parser leaves it, and the table of names has a record for each of its nodes.
 pub fn check(
     source: &[u8],
-    nodes: &[Node],
+    tree: Subtree<'_>,
     table: &mut Table<NameRecord>,
-    root: usize,
 ) -> Result<(), CheckFault>
-    requires { FitsIn source.now nodes.now root 0 (capacity table.old) }
-    ensures { (t : Tree) → Shows source.now nodes.now root t → Tells check_break result (deep_block (View.block t) 1 0 ++ names_block (View.block t) []) }
+    requires { FitsIn source.now tree 0 (capacity table.old) }
+    ensures { (t : Tree) → Shown source.now tree.entry t → Tells check_break result (deep_block (View.block t) 1 0 ++ names_block (View.block t) []) }
 {
-    check_depth(nodes, root)?;
-    check_names(source, nodes, table, root)?;
+    check_depth(tree)?;
+    check_names(source, tree, table)?;
     Ok(())
 }

@@ -3,13 +3,11 @@
 ghost use Rattle.std.specs.Prelude.{◌≡◌, ℕ, ◌+◌, if◌then◌else◌, nat_lt};
 ghost use Rattle.tiny.specs.Tree.{Fields, Formals, Statements, DeclarationTrees};
 ghost use Rattle.meaning.specs.Stages.{break, deeper, deep, deep_type, deep_fields, deep_formals, deep_all, deep_statements, deep_declarations, deep_block};
-ghost use Rattle.nodes.specs.Rooted.{Rooted};
 ghost use Rattle.syntax.specs.View;
 ghost use Rattle.checks.specs.Breaks.{Tells, depth_break};
 ghost use Rattle.checks.specs.Depth.{Counts, DepthIs, DeepIs, deep_branches};
 
 use crate::faults::{DepthCause, DepthFault};
-use nodes::node::Node;
 use nodes::subtree::{Shape, Subtree};
 use tiny::placed::Placed;
 use tiny::tokens::{Kind, Token};
@@ -52,7 +50,7 @@ impl Depth {
     fn node(self, token: Token) -> Result<(), DepthFault>
         ensures { (d l : ℕ) → Counts self d l → Tells depth_break result (deeper 96 d token.place) }
     {
-        if self.nodes as usize > MOST_DEEP {
+        if usize::from(self.nodes) > MOST_DEEP {
             return Err(Placed {
                 what: DepthCause::Node,
                 place: token.place,
@@ -66,7 +64,7 @@ impl Depth {
         ensures { (d l : ℕ) → Counts self d l → Tells depth_break result (if nat_lt 96 d then break 7 name.place else deeper 8 (l + 1) name.place) }
     {
         self.node(name)?;
-        if self.procedures as usize >= MOST_NESTED {
+        if usize::from(self.procedures) >= MOST_NESTED {
             return Err(Placed {
                 what: DepthCause::Procedure,
                 place: name.place,
@@ -272,15 +270,14 @@ impl Depth {
     }
 }
 
-// The first node that is too deep, in the order of the source, or none: `root` is the outermost
-// block of a tree in the table, as the parser leaves it.
-pub fn check_depth(nodes: &[Node], root: usize) -> Result<(), DepthFault>
-    requires { Rooted nodes.now root }
-    ensures { DepthIs nodes.now root result (λ t. deep_block (View.block t) 1 0) }
+// The first node that is too deep, in the order of the source, or none. The tree is that of the
+// outermost block, as the parser leaves it.
+pub fn check_depth(tree: Subtree<'_>) -> Result<(), DepthFault>
+    ensures { DepthIs tree.entry result (λ t. deep_block (View.block t) 1 0) }
 {
     let outermost = Depth {
         nodes: 1,
         procedures: 0,
     };
-    outermost.block(Subtree::new(nodes, root))
+    outermost.block(tree)
 }

@@ -20,6 +20,8 @@ impl Scope {
     pub fn on(top: usize) -> Self
         ensures top { result.top ≡ top }
         ensures start { result.start ≡ top }
+        ensures offset { result.offset ≡ 0 }
+        ensures level { result.level ≡ 0 }
     {
         Scope {
             top,

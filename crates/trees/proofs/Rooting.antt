@@ -8,6 +8,7 @@ use Rattle.tables.specs.declared.table.Table.{Table}
 use Rattle.nodes.specs.declared.node.Node.{Node}
 use Rattle.tables.specs.Items.{items}
 use Rattle.nodes.specs.Shows.{Shows}
+use Rattle.syntax.specs.Shape.{Tree}
 use Rattle.parser.specs.Parsing.{Answered, Fitting, Parsed}
 use Rattle.nodes.specs.Rooted.{Rooted}
 use Rattle.meaning.specs.Stages.{Break}
@@ -25,6 +26,10 @@ fitted false source o n i n' (a, s) = answered source o n i n' a
 pub rooted : (source : List ℕ) (s : Scanned) (n : Table Node) (i : ℕ) (n' : Table Node) → Parsed source s n (Ok i) n' → Rooted (items n') i
 rooted source (refused c p) n i n' (e, s) = absurd (let z : ◌≡◌ {A = ℕ} 0 1 = cc in omega arith)
 rooted source (tokens ts) n i n' f = fitted _ source _ n i n' f
+
+-- a record of the same table shows the same
+pub shown_there : {source : List ℕ} {ms ns : List Node} {i k : ℕ} {t : Tree} → ms ≡ ns → k ≡ i → Shows source ns i t → Shows source ms k t
+shown_there e k s = rw (e, k) s
 
 -- a list without a first break is empty
 pub no_break : (bs : List Break) → None ≡ first_break bs → bs ≡ []

@@ -7,6 +7,7 @@ ghost use Rattle.trees.specs.Trees.{ReadTree};
 use checks::depth::check_depth;
 use faults::TreeFault;
 use nodes::node::Node;
+use nodes::subtree::Subtree;
 use parser::parse::parse;
 use tables::table::Table;
 
@@ -18,6 +19,6 @@ pub fn read_tree(source: &[u8], nodes: &mut Table<Node>) -> Result<usize, TreeFa
     ensures { ReadTree source.now nodes.old result nodes.new }
 {
     let root = parse(source, nodes)?;
-    check_depth(nodes.as_slice(), root)?;
+    check_depth(Subtree::new(nodes.as_slice(), root))?;
     Ok(root)
 }

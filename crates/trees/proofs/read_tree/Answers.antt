@@ -1,14 +1,13 @@
-use Rattle.std.proofs.Common.{List, sym, subst}
+use Rattle.std.proofs.Common.{List, sym, subst, ◌∙◌}
 use Rattle.std.proofs.lemmas.Result.{err_from_is_err_and}
 use Rattle.tiny.specs.Scan.{scan}
 use Rattle.nodes.specs.declared.node.Node.{Node}
-use Rattle.nodes.specs.Shows.{Shows}
 use Rattle.nodes.specs.Rooted.{Rooted}
-use Rattle.trees.proofs.Rooting.{rooted, no_break}
+use Rattle.trees.proofs.Rooting.{rooted, no_break, shown_there}
 use Rattle.trees.proofs.read_tree.Goals as goal
 
-pub check_depth-requires : goal.check_depth-requires
-check_depth-requires c =
+pub new-requires : goal.new-requires
+new-requires c =
     let source = c.args.source.now in
     let root = c.in_ok-root.root in
     subst (λ (ns : List Node). Rooted ns root) (sym c.as_slice.ensures)
@@ -26,7 +25,7 @@ returns-in_err-check_depth c =
     rw (p.1, p.2) (
       root,
       c.in_ok-root.ensures,
-      (λ t s. sym (c.in_err-check_depth.ensures source t (subst (λ (ns : List Node). Shows source ns root t) (sym c.as_slice.ensures) s)).first),
+      (λ t s. sym (c.in_err-check_depth.ensures source t (shown_there (c.new.ensures.nodes ∙ c.as_slice.ensures) c.new.ensures.root s)).first),
     )
 
 pub returns : goal.returns
@@ -34,5 +33,5 @@ returns c =
     let source = c.args.source.now in
     let root = c.in_ok-root.root in (
       c.in_ok-root.ensures,
-      (λ t s. no_break _ (c.in_ok-check_depth.ensures source t (subst (λ (ns : List Node). Shows source ns root t) (sym c.as_slice.ensures) s)).first),
+      (λ t s. no_break _ (c.in_ok-check_depth.ensures source t (shown_there (c.new.ensures.nodes ∙ c.as_slice.ensures) c.new.ensures.root s)).first),
     )

@@ -31,16 +31,15 @@ branches-returns-in_err-block-in-Join-clause-names t c = λ s u Δ h D.
 pub branches-returns-in_ok-block-in-Join-clause-names : goal.branches-returns-in_ok-block-in-Join-clause-names
 branches-returns-in_ok-block-in-Join-clause-names t c = λ s u Δ h D.
     let j = c.in-Join.ensures.shown s u h in
-    let k = c.in_ok-block-in-Join.ensures.keeps.then _ refl in
+    let k = c.in_ok-block-in-Join.ensures.closes.keeps.then _ refl in
     by (branches_join _ _ _ _ j.whole)
-    (passes (c.in_ok-block-in-Join.ensures.names s _ Δ j.left_shown D) (ends (c.block-in-Join.ensures.names s _ Δ j.right_shown (declares_at c.in_ok-block-in-Join.ensures.scope (declares_kept k (omega arith) D)))))
+    (passes (c.in_ok-block-in-Join.ensures.names s _ Δ j.left_shown D) (ends (c.block-in-Join.ensures.names s _ Δ j.right_shown (declares_at c.in_ok-block-in-Join.ensures.closes.scope (declares_kept k (omega arith) D)))))
 
 pub branches-returns-in_default : goal.branches-returns-in_default
 branches-returns-in_default t c =
     record {
       names = λ s u Δ h D. by (branches_rest s c.shape.result u Δ c.in_default.not-Join (c.shape.ensures.shown s u h)) (ends (c.block-in_default.ensures.names s _ Δ h D));
-      scope = c.block-in_default.ensures.scope;
-      keeps = c.block-in_default.ensures.keeps;
+      closes = c.block-in_default.ensures.closes;
     }
 
 pub declarations-returns-in_err-type_tree-in-TypeWord-clause-names : goal.declarations-returns-in_err-type_tree-in-TypeWord-clause-names
@@ -169,7 +168,7 @@ pub procedure-returns-clause-after : goal.procedure-returns-clause-after
 procedure-returns-clause-after t c =
     let n = c.in_ok-declare.ensures.named.then _ refl in
     let g = c.in_ok-formals.ensures.after.then _ refl in
-    with_ok c.block.ensures.keeps (λ k.
+    with_ok c.block.ensures.closes.keeps (λ k.
     let b = keeps_at c.open-inner.ensures.top (keeps_both g.grown.keeps k g.grown.more) in
     proceeded_at c.declare.new.scope (search rules) (record {
       grown = grown_then (grown_named n) b;
@@ -185,8 +184,8 @@ statements-statements-requires-in-Semicolon t c = (omega (arith, c.in-Join.ensur
 
 pub statements-statements-requires-in-Semicolon-2 : goal.statements-statements-requires-in-Semicolon-2
 statements-statements-requires-in-Semicolon-2 t c =
-    let k = c.in_ok-statements-in-Semicolon.ensures.keeps.then _ refl in
-    (omega (arith, c.in-Join.ensures.parts.1.before), semi_right c.in-Join.token c.in-Join.ensures.shown c.requires c.in-Semicolon.is c.statements-in-Semicolon.new.scope.top (ap (λ z. z.top) c.in_ok-statements-in-Semicolon.ensures.scope) k)
+    let k = c.in_ok-statements-in-Semicolon.ensures.closes.keeps.then _ refl in
+    (omega (arith, c.in-Join.ensures.parts.1.before), semi_right c.in-Join.token c.in-Join.ensures.shown c.requires c.in-Semicolon.is c.statements-in-Semicolon.new.scope.top (ap (λ z. z.top) c.in_ok-statements-in-Semicolon.ensures.closes.scope) k)
 
 pub statements-returns-in_err-statements-in-Semicolon-clause-names : goal.statements-returns-in_err-statements-in-Semicolon-clause-names
 statements-returns-in_err-statements-in-Semicolon-clause-names t c = λ s u Δ h D.
@@ -196,10 +195,10 @@ statements-returns-in_err-statements-in-Semicolon-clause-names t c = λ s u Δ h
 pub statements-returns-in_ok-statements-in-Semicolon-clause-names : goal.statements-returns-in_ok-statements-in-Semicolon-clause-names
 statements-returns-in_ok-statements-in-Semicolon-clause-names t c = λ s u Δ h D.
     let j = c.in-Join.ensures.shown s u h in
-    let k = c.in_ok-statements-in-Semicolon.ensures.keeps.then _ refl in
+    let k = c.in_ok-statements-in-Semicolon.ensures.closes.keeps.then _ refl in
     by (statements_two _ _ _ _ j.whole c.in-Semicolon.is)
     (passes (c.in_ok-statements-in-Semicolon.ensures.names s _ Δ j.left_shown D)
-    (ends (c.statements-in-Semicolon-2.ensures.names s _ Δ j.right_shown (declares_at c.in_ok-statements-in-Semicolon.ensures.scope (declares_kept k (omega arith) D)))))
+    (ends (c.statements-in-Semicolon-2.ensures.names s _ Δ j.right_shown (declares_at c.in_ok-statements-in-Semicolon.ensures.closes.scope (declares_kept k (omega arith) D)))))
 
 pub statements-returns-in_err-expression-in-IfWord-clause-names : goal.statements-returns-in_err-expression-in-IfWord-clause-names
 statements-returns-in_err-expression-in-IfWord-clause-names t c = λ s u Δ h D.
@@ -228,8 +227,7 @@ statements-returns-in_err-used-in_default-kind t c =
           let j = c.in-Join.ensures.shown s u h in
           by (statements_call _ _ _ _ j.whole c.in_default-kind.not-DoubleAmpersand c.in_default-kind.not-Semicolon c.in_default-kind.not-IfWord c.in_default-kind.not-WhileWord)
           (stops _ c.from_residual-in_err-used-in_default-kind.ensures.1 (at_token (λ x. undeclared Δ x.place x.text) (c.token.ensures s _ j.left_shown) (c.in_err-used-in_default-kind.ensures s Δ D)));
-      scope = refl;
-      keeps = not_ok _ c.from_residual-in_err-used-in_default-kind.ensures.0;
+      closes = record { scope = refl; keeps = not_ok _ c.from_residual-in_err-used-in_default-kind.ensures.0 };
     }
 
 pub statements-returns-in_ok-used-in_default-kind : goal.statements-returns-in_ok-used-in_default-kind
@@ -239,8 +237,7 @@ statements-returns-in_ok-used-in_default-kind t c =
           let j = c.in-Join.ensures.shown s u h in
           by (statements_call _ _ _ _ j.whole c.in_default-kind.not-DoubleAmpersand c.in_default-kind.not-Semicolon c.in_default-kind.not-IfWord c.in_default-kind.not-WhileWord)
           (passes (at_token (λ x. undeclared Δ x.place x.text) (c.token.ensures s _ j.left_shown) (c.in_ok-used-in_default-kind.ensures s Δ D)) (ends (c.arguments.ensures s _ Δ j.right_shown D)));
-      scope = refl;
-      keeps = yes_ok (keeps_all c.requires.within);
+      closes = record { scope = refl; keeps = yes_ok (keeps_all c.requires.within) };
     }
 
 pub statements-returns-in_default : goal.statements-returns-in_default
@@ -250,6 +247,5 @@ statements-returns-in_default t c =
           let j = c.in-Under.ensures.shown s u h in
           by (statements_block _ _ _ j.whole c.in_default.not-DoubleAmpersand c.in_default.not-At c.in_default.not-ReadWord c.in_default.not-WriteWord)
           (ends (c.block.ensures.names s _ Δ h D));
-      scope = c.block.ensures.scope;
-      keeps = c.block.ensures.keeps;
+      closes = c.block.ensures.closes;
     }
