@@ -1,4 +1,4 @@
--- The grammar's names of lists, brackets and tails of expressions.
+-- The grammar's names of lists, brackets and tails of expressions and types.
 use Rattle.std.specs.Prelude.{Bool, true, false, cond, List, [], ◌∷◌}
 use Rattle.tiny.specs.declared.tokens.Kind.{Kind}
 use Rattle.tiny.specs.declared.tokens.Kind.TheVariants.{Becomes, Plus, Minus, And, Or, Index, Dot, Name, IndexEnd, Literal}

@@ -53,7 +53,7 @@ impl Bracket {
     }
 }
 
-// What may go on from an operand: the operators of a level.
+// What may go on from an operand, the operators of a level, or from a type, the lengths of arrays.
 #[derive(Clone, Copy)]
 pub enum Tail {
     Assignment,
