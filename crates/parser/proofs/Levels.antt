@@ -26,7 +26,7 @@ use Rattle.parser.specs.Ahead.{ahead, source_of, records, stands, Taken, Took}
 use Rattle.parser.specs.Forms.{operators, repeats, selecting, operand}
 use Rattle.parser.specs.Forms.{tail as tail_of}
 use Rattle.parser.specs.declared.forms.Tail.{Tail as Operators}
-use Rattle.parser.specs.declared.forms.Tail.TheVariants.{Assignment, Relation, Sum, Difference, Logic, Product, Postfix}
+use Rattle.parser.specs.declared.forms.Tail.TheVariants.{Assignment, Relation, Sum, Difference, Logic, Product, Postfix, Lengths}
 use Rattle.parser.specs.Reading.{Refused, Reads, Continues, instructing}
 use Rattle.parser.proofs.Stand.{Stand, Slot, start, by, call_on, took, done, from, one_kind}
 use Rattle.parser.proofs.Scanning.{opposed}
@@ -97,6 +97,7 @@ rules_of Difference o = (refl, tt)
 rules_of Logic o = (refl, (refl, tt))
 rules_of Product o = (refl, (refl, (refl, tt)))
 rules_of Postfix o = (refl, (refl, tt))
+rules_of Lengths o = (refl, tt)
 
 heads_of : (m : Operators) (o : Token) → heads (tail_rules (tail_of m) o) ≡ operators m
 heads_of Assignment o = refl
@@ -106,6 +107,7 @@ heads_of Difference o = refl
 heads_of Logic o = refl
 heads_of Product o = refl
 heads_of Postfix o = refl
+heads_of Lengths o = refl
 
 lack_of : (m : Operators) → may_lack (tail_of m) ≡ true
 lack_of Assignment = refl
@@ -115,6 +117,7 @@ lack_of Difference = refl
 lack_of Logic = refl
 lack_of Product = refl
 lack_of Postfix = refl
+lack_of Lengths = refl
 
 pub operated : {α : List Symbol} {c c₁ c₂ : Parser} {ks : List Kind} {ss : List Slot} {p r : ℕ} {t : Placed Lexeme} (m : Operators) → ks ≡ operators m →
     Took ks c₁ t c₂ → Stand α c (further (tail_of m) ∷ []) ss c₁ p r →

@@ -1,7 +1,7 @@
--- The grammar's names of lists, brackets and tails of expressions.
+-- The grammar's names of lists, brackets and tails of expressions and types.
 use Rattle.std.specs.Prelude.{Bool, true, false, cond, List, [], ◌∷◌}
 use Rattle.tiny.specs.declared.tokens.Kind.{Kind}
-use Rattle.tiny.specs.declared.tokens.Kind.TheVariants.{Becomes, Plus, Minus, And, Or, Index, Dot, Name, IndexEnd}
+use Rattle.tiny.specs.declared.tokens.Kind.TheVariants.{Becomes, Plus, Minus, And, Or, Index, Dot, Name, IndexEnd, Literal}
 use Rattle.tiny.specs.Token.{is, relations, factors}
 use Rattle.syntax.specs.Grammar as Grammar
 use Rattle.syntax.specs.Grammar.Sort.{e0, e2, e3, e4, e5}
@@ -13,7 +13,7 @@ use Rattle.parser.specs.declared.forms.Listed.TheVariants.{Declarations, Stateme
 use Rattle.parser.specs.declared.forms.Bracket.{Bracket}
 use Rattle.parser.specs.declared.forms.Bracket.TheVariants.{Braces, FormalParens, ActualParens}
 use Rattle.parser.specs.declared.forms.Tail.{Tail}
-use Rattle.parser.specs.declared.forms.Tail.TheVariants.{Assignment, Relation, Sum, Difference, Logic, Product, Postfix}
+use Rattle.parser.specs.declared.forms.Tail.TheVariants.{Assignment, Relation, Sum, Difference, Logic, Product, Postfix, Lengths}
 
 abbrev pub listed : Listed → Grammar.Listed
 listed Declarations = Grammar.Listed.declarations
@@ -35,6 +35,7 @@ tail Difference = Parse.Tail.minus?
 tail Logic = Parse.Tail.logic?
 tail Product = Parse.Tail.factor?
 tail Postfix = Parse.Tail.postfix?
+tail Lengths = Parse.Tail.array?
 
 abbrev pub operators : Tail → List Kind
 operators Assignment = Becomes ∷ []
@@ -44,6 +45,7 @@ operators Difference = Minus ∷ []
 operators Logic = And ∷ Or ∷ []
 operators Product = factors
 operators Postfix = Index ∷ Dot ∷ []
+operators Lengths = Index ∷ []
 
 -- whether more of the operators may follow
 abbrev pub repeats : Tail → Bool
@@ -54,6 +56,7 @@ repeats Difference = false
 repeats Logic = false
 repeats Product = true
 repeats Postfix = true
+repeats Lengths = true
 
 -- what stands behind a postfix operator: a name behind `.`, an expression and `]` behind `[`
 abbrev pub selecting : Kind → List Symbol
@@ -68,3 +71,4 @@ operand Difference k = expect e3 ∷ []
 operand Logic k = cond (is k And) (expect e3 ∷ []) (expect e4 ∷ [])
 operand Product k = expect e5 ∷ []
 operand Postfix k = selecting k
+operand Lengths k = token Literal pushed ∷ token IndexEnd dropped ∷ []

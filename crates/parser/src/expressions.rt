@@ -110,7 +110,7 @@ impl Parser<'_, '_, '_> {
     // Operators of a tail behind an operand, each with the operand on its right.
     #[cycle(levels)]
     #[inline(never)]
-    fn further(&mut self, of: Tail, first: usize) -> Result<usize, SyntaxCause>
+    pub(crate) fn further(&mut self, of: Tail, first: usize) -> Result<usize, SyntaxCause>
         ensures { Continues (tail of) first self.old result self.new }
     {
         let mut left = first;
@@ -137,6 +137,7 @@ impl Parser<'_, '_, '_> {
             Tail::Logic => self.products(),
             Tail::Product => self.prefix(),
             Tail::Postfix => self.selector(operator),
+            Tail::Lengths => self.length(),
         }
     }
 

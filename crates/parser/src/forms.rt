@@ -53,7 +53,7 @@ impl Bracket {
     }
 }
 
-// What may go on from an operand: the operators of a level.
+// What may go on from an operand, the operators of a level, or from a type, the lengths of arrays.
 #[derive(Clone, Copy)]
 pub enum Tail {
     Assignment,
@@ -63,6 +63,7 @@ pub enum Tail {
     Logic,
     Product,
     Postfix,
+    Lengths,
 }
 
 impl Tail {
@@ -84,6 +85,7 @@ impl Tail {
             Tail::Logic => &[Kind::And, Kind::Or],
             Tail::Product => &[Kind::Times, Kind::Over, Kind::Percent],
             Tail::Postfix => &[Kind::Index, Kind::Dot],
+            Tail::Lengths => &[Kind::Index],
         }
     }
 
@@ -92,7 +94,7 @@ impl Tail {
         ensures { result ≡ repeats self }
     {
         match self {
-            Tail::Relation | Tail::Sum | Tail::Product | Tail::Postfix => true,
+            Tail::Relation | Tail::Sum | Tail::Product | Tail::Postfix | Tail::Lengths => true,
             Tail::Assignment | Tail::Difference | Tail::Logic => false,
         }
     }

@@ -2,11 +2,15 @@
 // What structs do not nest through stands out of line, so that a level of nesting takes little stack.
 ghost use Rattle.std.specs.Prelude.{[], ◌∷◌};
 ghost use Rattle.syntax.specs.Grammar.{Sort};
-ghost use Rattle.syntax.specs.Parse.{Tail, expect, further};
-ghost use Rattle.parser.specs.Reading.{Reads, Upto, Continues};
+ghost use Rattle.syntax.specs.Parse.{expect, further};
+ghost use Rattle.syntax.specs.Parse.Tail.{array?};
+ghost use Rattle.parser.specs.Forms.{operand};
+ghost use Rattle.parser.specs.declared.forms.Tail.TheVariants.{Lengths};
+ghost use Rattle.tiny.specs.declared.tokens.Kind.TheVariants.{Index};
+ghost use Rattle.parser.specs.Reading.{Reads, Upto};
 
 use crate::faults::SyntaxCause;
-use crate::forms::Listed;
+use crate::forms::{Listed, Tail};
 use crate::parser::Parser;
 use nodes::node::Node;
 use tiny::tokens::Kind;
@@ -18,28 +22,23 @@ impl Parser<'_, '_, '_> {
         ensures { Reads (expect Sort.type ∷ []) self.old result self.new }
     {
         let left = self.element()?;
-        self.lengths(left)
+        self.further(Tail::Lengths, left)
     }
 
-    // The lengths of arrays behind a type.
+    // A literal and `]`, behind `[`.
     #[inline(never)]
-    fn lengths(&mut self, first: usize) -> Result<usize, SyntaxCause>
-        ensures { Continues Tail.array? first self.old result self.new }
+    pub(crate) fn length(&mut self) -> Result<usize, SyntaxCause>
+        ensures { Reads (operand Lengths Index) self.old result self.new }
     {
-        let mut left = first;
-        while let Some(token) = self.take(&[Kind::Index]) {
-            let length = self.expect(&[Kind::Literal])?;
-            self.expect(&[Kind::IndexEnd])?;
-            let right = self.add(Node::Leaf { token: length });
-            left = self.add(Node::Join { token, left, right });
-        }
-        Ok(left)
+        let token = self.expect(&[Kind::Literal])?;
+        self.expect(&[Kind::IndexEnd])?;
+        Ok(self.add(Node::Leaf { token }))
     }
 
     // A type but for the lengths behind it.
     #[cycle(parts)]
     fn element(&mut self) -> Result<usize, SyntaxCause>
-        ensures { Upto (expect Sort.type ∷ []) (further Tail.array? ∷ []) self.old result self.new }
+        ensures { Upto (expect Sort.type ∷ []) (further array? ∷ []) self.old result self.new }
     {
         if let Some(token) = self.take(&[Kind::Name, Kind::IntWord, Kind::BoolWord]) {
             return Ok(self.add(Node::Leaf { token }));
