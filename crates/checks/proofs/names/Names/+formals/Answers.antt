@@ -11,11 +11,6 @@ use Rattle.checks.proofs.Steps.{ends, passes, stops, then_way, else_way, by}
 use Rattle.checks.proofs.Scopes.{with_ok, declares_kept, declares_named, grown_named, grown_both, grown_behind}
 use Rattle.checks.proofs.names.Names.+formals.Goals as goal
 
-pub returns-then-eq-clause-names : goal.returns-then-eq-clause-names
-returns-then-eq-clause-names t c = λ s u Δ h D.
-    let j = c.in-Under.ensures.shown s u h in
-    by (formals_under _ _ _ j.whole) (then_way (told c.in-Under.token.what.kind Open c.if-eq.ensures) (ends (c.formals.ensures.names s _ Δ j.shown D)))
-
 pub returns-then-eq-clause-after : goal.returns-then-eq-clause-after
 returns-then-eq-clause-after t c =
     with_ok c.formals.ensures.after (λ q. record {

@@ -2,9 +2,6 @@ use Rattle.std.proofs.Common.{refl}
 use Rattle.nodes.proofs.Roots.{not_blank, part_rooted, part_before, left_rooted, left_before, right_rooted, right_before}
 use Rattle.nodes.proofs.subtree.Subtree.shape.Goals as goal
 
-pub unreachable-requires : goal.unreachable-requires
-unreachable-requires c = not_blank c.args.self.rooted c.in-Blank.is
-
 pub invariant_of-result : goal.invariant_of-result
 invariant_of-result c = record { rooted = part_rooted c.args.self.rooted c.in-Under.is }
 
