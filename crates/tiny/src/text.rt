@@ -1,5 +1,5 @@
 // Letters, words, blanks and numbers, as the source spells them.
-ghost use Rattle.std.specs.Prelude.{◌≡◌, ◌+◌, ◌-◌, ◌*◌, min, map};
+ghost use Rattle.std.specs.Prelude.{◌≡◌, ◌+◌, ◌-◌, ◌*◌, min};
 ghost use Rattle.std.specs.Str.{str_to_ascii_lowercase};
 ghost use Rattle.tiny.specs.Spelling.{letter, lower, words, number, value, blank, ranged, meaning};
 ghost use Rattle.tiny.specs.Automaton;
@@ -12,47 +12,50 @@ pub(crate) fn is_letter(b: u8) -> bool
     b.is_ascii_alphabetic() || b == b'_'
 }
 
-// The reserved words, in small letters.
-const WORDS: [(&[u8], Kind); 22] = [
-    (b"int", Kind::IntWord),
-    (b"real", Kind::RealWord),
-    (b"bool", Kind::BoolWord),
-    (b"string", Kind::StringWord),
-    (b"struct", Kind::StructWord),
-    (b"and", Kind::And),
-    (b"or", Kind::Or),
-    (b"not", Kind::Not),
-    (b"null", Kind::NullWord),
-    (b"true", Kind::TrueWord),
-    (b"false", Kind::FalseWord),
-    (b"proc", Kind::ProcWord),
-    (b"if", Kind::IfWord),
-    (b"else", Kind::ElseWord),
-    (b"while", Kind::WhileWord),
-    (b"new", Kind::NewWord),
-    (b"delete", Kind::DeleteWord),
-    (b"read", Kind::ReadWord),
-    (b"write", Kind::WriteWord),
-    (b"nl", Kind::NlWord),
-    (b"type", Kind::TypeWord),
-    (b"call", Kind::CallWord),
-];
-
-// The kind of the word in a table that a text is, whatever its letter case; of another text, a name.
-fn kind_in(table: &[(&[u8], Kind)], text: &[u8]) -> Kind
-    ensures { result ≡ Automaton.word_kind (map (λ e. (str_to_ascii_lowercase e.0.now, e.1)) table.now) text.now }
+// Whether a text is the word, whatever its letter case.
+fn same(text: &[u8], word: &[u8]) -> bool
+    ensures { result ≡ Automaton.same text.now (str_to_ascii_lowercase word.now) }
 {
-    table
-        .iter()
-        .find(|(word, _)| text.eq_ignore_ascii_case(word))
-        .map_or(Kind::Name, |(_, kind)| *kind)
+    text.eq_ignore_ascii_case(word)
+}
+
+// The kind of the first of some words that a text is, or else what stands last: a chain of
+// comparisons, each with a word that is known where it is compiled.
+macro_rules! first_word {
+    ($text:expr; $($word:literal => $kind:ident,)* _ => $other:expr) => {
+        $(if same($text, $word) { Kind::$kind } else)* { $other }
+    };
 }
 
 // The kind of a word: a reserved word or a name.
 pub(crate) fn word_kind(text: &[u8]) -> Kind
     ensures { result ≡ Automaton.word_kind words text.now }
 {
-    kind_in(&WORDS, text)
+    first_word! { text;
+        b"int" => IntWord,
+        b"real" => RealWord,
+        b"bool" => BoolWord,
+        b"string" => StringWord,
+        b"struct" => StructWord,
+        b"and" => And,
+        b"or" => Or,
+        b"not" => Not,
+        b"null" => NullWord,
+        b"true" => TrueWord,
+        b"false" => FalseWord,
+        b"proc" => ProcWord,
+        b"if" => IfWord,
+        b"else" => ElseWord,
+        b"while" => WhileWord,
+        b"new" => NewWord,
+        b"delete" => DeleteWord,
+        b"read" => ReadWord,
+        b"write" => WriteWord,
+        b"nl" => NlWord,
+        b"type" => TypeWord,
+        b"call" => CallWord,
+        _ => Kind::Name
+    }
 }
 
 pub(crate) fn is_blank(b: u8) -> bool
