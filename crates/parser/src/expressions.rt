@@ -107,10 +107,21 @@ impl Parser<'_, '_, '_> {
         Ok(inner)
     }
 
+    // A tail behind an operand. Mostly there is none, which is seen without a call.
+    #[cycle(levels)]
+    pub(crate) fn further(&mut self, of: Tail, first: usize) -> Result<usize, SyntaxCause>
+        ensures { Continues (tail of) first self.old result self.new }
+    {
+        if self.stands(of.operators()) {
+            return self.operations(of, first);
+        }
+        Ok(first)
+    }
+
     // Operators of a tail behind an operand, each with the operand on its right.
     #[cycle(levels)]
     #[inline(never)]
-    pub(crate) fn further(&mut self, of: Tail, first: usize) -> Result<usize, SyntaxCause>
+    fn operations(&mut self, of: Tail, first: usize) -> Result<usize, SyntaxCause>
         ensures { Continues (tail of) first self.old result self.new }
     {
         let mut left = first;

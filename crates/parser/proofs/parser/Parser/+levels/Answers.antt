@@ -81,23 +81,27 @@ basic-returns-in-Some t c =
     done (put_leaf c.add.ensures (made_leaf (took (whole basic) leafing (λ o. (refl, (refl, (refl, (refl, tt))))) c.in-Some.ensures
     (start (expect basic ∷ []) _))))
 
-pub further-returns-in_err-right : goal.further-returns-in_err-right
-further-returns-in_err-right t c =
+pub operations-returns-in_err-right : goal.operations-returns-in_err-right
+operations-returns-in_err-right t c =
     broke_off _ _ _ _ _ _ c.from_residual.ensures.1
     (λ u h. fails_on _ c.in_err-right.ensures (operated c.args.of c.operators.ensures c.in-Some.ensures
     (c.loop-token.invariant.goes _ _ _ _ _ (tailed _ u _ _ h))))
 
-pub further-loop-token-preserved : goal.further-loop-token-preserved
-further-loop-token-preserved t c =
+pub operations-loop-token-preserved : goal.operations-loop-token-preserved
+operations-loop-token-preserved t c =
     turned c.add-left.ensures (repeated c.args.of c.repeats.ensures c.if-not-repeats.false (call_on _ c.in_ok-right.ensures
     (operated c.args.of c.operators.ensures c.in-Some.ensures (start (further (tail_of c.args.of) ∷ []) _))))
     c.loop-token.invariant
 
-pub further-returns-then-not-repeats : goal.further-returns-then-not-repeats
-further-returns-then-not-repeats t c =
+pub operations-returns-then-not-repeats : goal.operations-returns-then-not-repeats
+operations-returns-then-not-repeats t c =
     λ u h. went (put_join c.add-left.ensures (only_once c.args.of c.repeats.ensures c.if-not-repeats.true (call_on _ c.in_ok-right.ensures
     (operated c.args.of c.operators.ensures c.in-Some.ensures (c.loop-token.invariant.goes _ _ _ _ _ (tailed _ u _ _ h))))))
 
+pub operations-returns : goal.operations-returns
+operations-returns t c =
+    λ u h. went (no_more c.args.of c.operators.ensures c.in_default.ensures (c.loop-token.invariant.goes _ _ _ _ _ (tailed _ u _ _ h)))
+
 pub further-returns : goal.further-returns
 further-returns t c =
-    λ u h. went (no_more c.args.of c.operators.ensures c.in_default.ensures (c.loop-token.invariant.goes _ _ _ _ _ (tailed _ u _ _ h)))
+    λ u h. went (no_more c.args.of c.operators.ensures (refl, sym c.stands.ensures ∙ c.if-stands.false) (tailed _ u _ _ h))

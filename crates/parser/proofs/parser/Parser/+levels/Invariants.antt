@@ -40,10 +40,13 @@ abbrev pub decreases-operand : goal.decreases-operand
 decreases-operand l = 16 * length (ahead l.self.now) + 11
 
 abbrev pub decreases-further : goal.decreases-further
-decreases-further l = 16 * length (ahead l.self.now) + 0
+decreases-further l = 16 * length (ahead l.self.now) + 1
 
-abbrev pub invariant-further-loop-token : goal.invariant-further-loop-token
-invariant-further-loop-token l = Kept (further (tail l.of) ∷ []) l.initial.left l.initial.self l.left l.self
+abbrev pub decreases-operations : goal.decreases-operations
+decreases-operations l = 16 * length (ahead l.self.now) + 0
 
-abbrev pub decreases-further-loop-token : goal.decreases-further-loop-token
-decreases-further-loop-token l = length (ahead l.self)
+abbrev pub invariant-operations-loop-token : goal.invariant-operations-loop-token
+invariant-operations-loop-token l = Kept (further (tail l.of) ∷ []) l.initial.left l.initial.self l.left l.self
+
+abbrev pub decreases-operations-loop-token : goal.decreases-operations-loop-token
+decreases-operations-loop-token l = length (ahead l.self)
