@@ -74,7 +74,11 @@ impl<'a> Shelf for ByteShelf<'a> {
         self.count = 0;
     }
 
+    // Past the end nothing is read.
     fn fetch(&self, n: usize) -> Option<Instruction> {
+        if n >= self.count {
+            return None;
+        }
         Instructions {
             bytes: self.bytes.as_slice(),
         }

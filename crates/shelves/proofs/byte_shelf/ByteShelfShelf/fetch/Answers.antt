@@ -1,12 +1,18 @@
 use Rattle.std.proofs.Common.{◌≡◌, sym, ap, ◌∙◌, arith}
 use Rattle.std.proofs.lemmas.Iterator.Consumers.{nth_from_yields_List, YieldsList-from_first}
 use Rattle.std.proofs.lemmas.Iterator.Adapters.{option_map_id}
+use Rattle.std.proofs.lemmas.Option.{slice_get_past}
 use Rattle.machine.specs.Shelves.{fetched}
 use Rattle.tables.specs.Items.{items}
 use Rattle.shelves.specs.Bytes.{decoded}
 use Rattle.shelves.proofs.Codes.{fetched_sound}
 use Rattle.shelves.proofs.Laws.{bytes_few, decoded_lawful}
 use Rattle.shelves.proofs.byte_shelf.ByteShelfShelf.fetch.Goals as goal
+
+pub returns-then-n-self-clause-answer : goal.returns-then-n-self-clause-answer
+returns-then-n-self-clause-answer c =
+    let s = c.args.self.now in
+    sym (slice_get_past (decoded (items s.bytes)) c.args.n (omega (arith, s.counted, c.if-n-self.true)))
 
 pub returns : goal.returns
 returns c =
