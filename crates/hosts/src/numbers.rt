@@ -57,11 +57,12 @@ impl<'a> Host for NumberHost<'a> {
     }
 
     fn say(&mut self, event: Event) -> Result<(), NoRoom> {
-        let pair = pair_of(event);
-        if self.output.room() < pair.len() {
+        let [tag, value] = pair_of(event);
+        if self.output.room() < 2 {
             return Err(NoRoom);
         }
-        self.output.extend_from_slice(&pair);
+        self.output.push(tag);
+        self.output.push(value);
         Ok(())
     }
 }

@@ -1,13 +1,33 @@
 // An event as text.
-ghost use Rattle.std.specs.Prelude.{◌+◌, ◌≤◌, decimal, length};
-ghost use Rattle.tables.specs.Items.{items, capacity, HasRoom, Extended};
+ghost use Rattle.std.specs.Prelude.{◌≡◌, ◌≤◌, decimal, length};
+ghost use Rattle.tables.specs.Items.{HasRoom, Extended};
 ghost use Rattle.hosts.specs.Texts.{text_of};
 
 use machine::host::Event;
 use tables::table::Table;
 
-// An event takes so many bytes at most: an int a sign and ten digits.
-pub(crate) const LONGEST: usize = 11;
+// How many digits a number has.
+fn digits(n: u32) -> usize
+    ensures value { result ≡ length (decimal n) }
+    ensures least { 1 ≤ result }
+    ensures most { result ≤ 10 }
+{
+    if n < 10 { 1 } else { digits(n / 10) + 1 }
+}
+
+// How many bytes an event takes.
+pub(crate) fn text_length(event: Event) -> usize
+    ensures value { result ≡ length (text_of event) }
+    ensures least { 1 ≤ result }
+{
+    match event {
+        Event::Int(value) if value < 0 => 1 + digits(value.unsigned_abs()),
+        Event::Int(value) => digits(value.unsigned_abs()),
+        Event::Bool(true) => 4,
+        Event::Bool(false) => 5,
+        Event::Line => 1,
+    }
+}
 
 // Adds the digits of a number.
 fn add_decimal(text: &mut Table<u8>, n: u32)
@@ -24,7 +44,7 @@ fn add_decimal(text: &mut Table<u8>, n: u32)
 
 // Adds an int in decimal, a bool by its name, a line feed.
 pub(crate) fn add_event(text: &mut Table<u8>, event: Event)
-    requires { length (items text.old) + LONGEST ≤ capacity text.old }
+    requires { HasRoom text.old (text_of event) }
     ensures written { Extended text.old (text_of event) text.new }
     ensures some { 1 ≤ length (text_of event) }
 {

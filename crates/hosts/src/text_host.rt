@@ -4,7 +4,7 @@ ghost use Rattle.tables.specs.Items.{items, capacity};
 ghost use Rattle.hosts.specs.Texts.{text_host};
 
 use crate::parts::{first_part, read_item};
-use crate::rendering::{LONGEST, add_event};
+use crate::rendering::{add_event, text_length};
 use machine::host::{Event, Host, NoRoom, Unreadable};
 use tables::table::Table;
 
@@ -42,20 +42,20 @@ impl<'a> Host for TextHost<'a> {
         Some(read_item(part))
     }
 
+    // Blanks that nothing follows go too, so that they are read once.
     fn take(&mut self) {
         if let Some((_, rest)) = first_part(self.input) {
             self.input = rest;
+        } else {
+            self.input = &[];
         }
     }
 
     fn say(&mut self, event: Event) -> Result<(), NoRoom> {
-        let mut cells = [0; LONGEST];
-        let mut text = Table::over(&mut cells);
-        add_event(&mut text, event);
-        if self.output.room() < text.len() {
+        if self.output.room() < text_length(event) {
             return Err(NoRoom);
         }
-        self.output.extend_from_slice(text.as_slice());
+        add_event(&mut self.output, event);
         Ok(())
     }
 }
