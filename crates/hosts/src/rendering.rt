@@ -55,6 +55,8 @@ pub(crate) fn add_event(text: &mut Table<u8>, event: Event)
         }
         Event::Int(value) => add_decimal(text, value.unsigned_abs()),
         Event::Bool(value) => text.extend_from_slice(if value { b"true" } else { b"false" }),
-        Event::Line => text.extend_from_slice(b"\n"),
+        Event::Line => {
+            text.push(b'\n');
+        }
     }
 }

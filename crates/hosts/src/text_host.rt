@@ -42,7 +42,7 @@ impl<'a> Host for TextHost<'a> {
         Some(read_item(part))
     }
 
-    // Blanks that nothing follows go too, so that they are read once.
+    // Blanks that nothing follows go too, so that later calls do not read them again.
     fn take(&mut self) {
         if let Some((_, rest)) = first_part(self.input) {
             self.input = rest;

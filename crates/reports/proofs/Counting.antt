@@ -1,32 +1,50 @@
 -- Lines and columns, as counts of line ends and of the bytes in front of one.
-use Rattle.std.proofs.Common.{◌≡◌, ℕ, ◌+◌, Bool, true, false, cond, not, eqb, List, [], ◌∷◌, ◌++◌, reverse, count_by, sym, refl, ap, ◌∙◌, arith}
+use Rattle.std.proofs.Common.{◌≡◌, ℕ, suc, ◌+◌, ◌^◌, ◌%◌, ◌<◌, ◌≤◌, Bool, true, false, cond, eqb, not, List, [], ◌∷◌, length, fold, refl, arith}
 use Rattle.std.specs.List.{prefix_len}
-use Rattle.std.proofs.lemmas.List.{reverse-append, reverse-reverse}
-use Rattle.std.proofs.lemmas.List.Recursion.{is_count_by, is_position_or_len}
+use Rattle.std.proofs.lemmas.List.Recursion.{is_position_or_len}
 use Rattle.reports.specs.Lines.{line_ends, since, line_length}
 
 abbrev pub within : ℕ → Bool
 within b = not (eqb b 10)
 
-pub ends_counted : (bs : List ℕ) → line_ends bs ≡ count_by (λ b. eqb b 10) bs
-ends_counted = is_count_by line_ends (λ b. eqb b 10) refl (λ _ _. refl)
-
 pub length_counted : (bs : List ℕ) → line_length bs ≡ prefix_len within bs
 length_counted = is_position_or_len line_length (λ b. eqb b 10) refl (λ _ _. refl)
 
-since_more : (n : ℕ) (bs : List ℕ) (b : ℕ) → since n (bs ++ b ∷ []) ≡ cond (eqb b 10) 0 (since n bs + 1)
-since_more n [] b = refl
-since_more n (a ∷ bs) b = since_more (cond (eqb a 10) 0 (n + 1)) bs b
+-- a byte more, in a count of lines and in one of the bytes of a line
+abbrev pub more_lines : ℕ → ℕ → ℕ
+more_lines n b = (n + cond (eqb b 10) 1 0) % 2 ^ 64
 
--- the bytes behind the last line end are, from behind, those before the first
-since_reversed : (bs : List ℕ) → since 0 (reverse bs) ≡ prefix_len within bs
-since_reversed [] = refl
-since_reversed (b ∷ bs) =
-    ap (since 0) (reverse-append (b ∷ []) bs) ∙ since_more 0 (reverse bs) b ∙ ap (λ (n : ℕ). cond (eqb b 10) 0 (n + 1)) (since_reversed bs) ∙ go (eqb b 10)
+abbrev pub more_bytes : ℕ → ℕ → ℕ
+more_bytes n b = cond (eqb b 10) 0 ((n + 1) % 2 ^ 64)
+
+pub ends_folded : (bs : List ℕ) (n : ℕ) → n + length bs < 2 ^ 64 → fold more_lines n bs ≡ n + line_ends bs
+ends_folded [] n h = omega arith
+ends_folded (b ∷ bs) n h = go (eqb b 10) (λ m l. ends_folded bs m l)
   where
-    go : (c : Bool) → cond c 0 (prefix_len within bs + 1) ≡ cond (not c) (1 + prefix_len within bs) 0
-    go true = refl
-    go false = omega arith
+    go : (c : Bool) → ((m : ℕ) → m + length bs < 2 ^ 64 → fold more_lines m bs ≡ m + line_ends bs) → fold more_lines ((n + cond c 1 0) % 2 ^ 64) bs ≡ n + cond c (1 + line_ends bs) (line_ends bs)
+    go true f = let small : (n + 1) % 2 ^ 64 ≡ n + 1 = omega (arith, h) in rw small (omega (arith, f (n + 1) (omega (arith, h))))
+    go false f = let small : (n + 0) % 2 ^ 64 ≡ n = omega (arith, h) in rw small (f n (omega (arith, h)))
 
-pub since_counted : (bs : List ℕ) → since 0 bs ≡ prefix_len within (reverse bs)
-since_counted bs = ap (since 0) (sym (reverse-reverse bs)) ∙ since_reversed (reverse bs)
+pub since_folded : (bs : List ℕ) (n : ℕ) → n + length bs < 2 ^ 64 → fold more_bytes n bs ≡ since n bs
+since_folded [] n h = refl
+since_folded (b ∷ bs) n h = go (eqb b 10) (λ m l. since_folded bs m l)
+  where
+    go : (c : Bool) → ((m : ℕ) → m + length bs < 2 ^ 64 → fold more_bytes m bs ≡ since m bs) → fold more_bytes (cond c 0 ((n + 1) % 2 ^ 64)) bs ≡ since (cond c 0 (n + 1)) bs
+    go true f = f 0 (omega (arith, h))
+    go false f = let small : (n + 1) % 2 ^ 64 ≡ n + 1 = omega (arith, h) in rw small (f (n + 1) (omega (arith, h)))
+
+pub ends_few : (bs : List ℕ) → line_ends bs ≤ length bs
+ends_few [] = omega arith
+ends_few (b ∷ bs) = go (eqb b 10) (ends_few bs)
+  where
+    go : (c : Bool) → line_ends bs ≤ length bs → cond c (1 + line_ends bs) (line_ends bs) ≤ suc (length bs)
+    go true f = omega (arith, f)
+    go false f = omega (arith, f)
+
+pub since_few : (bs : List ℕ) (n : ℕ) → since n bs ≤ n + length bs
+since_few [] n = omega arith
+since_few (b ∷ bs) n = go (eqb b 10) (since_few bs 0) (since_few bs (n + 1))
+  where
+    go : (c : Bool) → since 0 bs ≤ 0 + length bs → since (n + 1) bs ≤ n + 1 + length bs → since (cond c 0 (n + 1)) bs ≤ n + suc (length bs)
+    go true f g = omega (arith, f)
+    go false f g = omega (arith, g)

@@ -16,7 +16,9 @@ fn lines_before(before: &[u8]) -> usize
     ensures count { result ≡ line_ends before.now }
     ensures few { result ≤ length before.now }
 {
-    before.iter().filter(|b| **b == b'\n').count()
+    before.iter().fold(0, |lines: usize, b| {
+        lines.wrapping_add(usize::from(*b == b'\n'))
+    })
 }
 
 // How many of the bytes before a place stand on its line.
@@ -24,7 +26,13 @@ fn bytes_before(before: &[u8]) -> usize
     ensures count { result ≡ since 0 before.now }
     ensures few { result ≤ length before.now }
 {
-    before.iter().rev().take_while(|b| **b != b'\n').count()
+    before.iter().fold(0, |bytes: usize, b| {
+        if *b == b'\n' {
+            0
+        } else {
+            bytes.wrapping_add(1)
+        }
+    })
 }
 
 // How many of the bytes from a place on stand on its line.

@@ -1,9 +1,16 @@
-use Rattle.std.proofs.Common.{◌≡◌, eqb, count_by, rules, sym, ◌∙◌}
-use Rattle.std.proofs.iter.runs.Made.{chains}
-use Rattle.reports.proofs.Counting.{ends_counted}
+use Rattle.std.proofs.Common.{◌+◌, ◌^◌, ◌<◌, length, rules, tests, arith}
+use Rattle.std.proofs.lemmas.Iterator.{YieldsList-from_slice}
+use Rattle.std.proofs.lemmas.Iterator.Consumers.{fold_from_yields_List}
+use Rattle.reports.proofs.Counting.{more_lines, ends_folded, ends_few}
 use Rattle.reports.proofs.lines.lines_before.Goals as goal
 
 pub returns-clause-count : goal.returns-clause-count
 returns-clause-count c =
-    let counted : c.count.result ≡ count_by (λ b. eqb b 10) c.args.before.now = search (rules, chains) in
-    counted ∙ sym (ends_counted c.args.before.now)
+    let before = c.args.before.now in
+    let long : 0 + length before < 2 ^ 64 = search rules in
+    let folded = fold_from_yields_List _ more_lines 0 c.fold.result c.fold.ensures.ran (YieldsList-from_slice before cc) (λ a x b q k. search (rules, tests)) in
+    let ends = ends_folded before 0 long in
+    omega (arith, folded, ends)
+
+pub returns-clause-few : goal.returns-clause-few
+returns-clause-few c = let count = returns-clause-count c in omega (arith, count, ends_few c.args.before.now)
